@@ -1,0 +1,22 @@
+use borrow.Author.Needs.{needs}
+use Rattle.structs.proofs.read_u32.Statement.{statement}
+use Rattle.structs.proofs.read_u32.Tie as tie
+use native.Mathlib.Omega.{arith}
+use Rattle.structs.proofs.Laws.{in32, out32}
+use mathlib.Core.Path.{_∙_, ap}
+use Rattle.structs.specs.declared.Read32.the-variants.{Value}
+
+returns : tie.Need-returns
+returns c = out32 _ _ (omega arith)
+
+returns-2 : tie.Need-returns-2
+returns-2 c = out32 _ _ (omega arith)
+
+u32-at-requires : tie.Need-u32-at-requires
+u32-at-requires c κs = search needs
+
+returns-3 : tie.Need-returns-3
+returns-3 c = ap Value (c .u32-at .ensures) ∙ in32 _ _ (omega arith)
+
+pub read-u32-spec : {M : Type 1} → statement M
+read-u32-spec = tie.close (tie.spec returns returns-2 u32-at-requires returns-3)

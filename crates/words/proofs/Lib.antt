@@ -1,0 +1,3 @@
+pub mod Shared
+pub mod Arms
+pub mod Padded
