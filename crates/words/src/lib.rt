@@ -29,12 +29,12 @@ pub fn word_at(w: &[u32], i: usize) -> u32
     if i < w.len() { w[i] } else { 0 }
 }
 
-// The word at i becomes v; past the end nothing changes.
-pub fn put(w: &mut [u32], i: usize, v: u32)
-    ensures { λ _. ⌜ now (w .exit) ≡ set (now (w .entry)) i v ⌝ }
+// The word at a place becomes v; past the end nothing changes.
+pub fn put(w: &mut [u32], at: usize, v: u32)
+    ensures { λ _. ⌜ now (w .exit) ≡ set (now (w .entry)) at v ⌝ }
 {
-    if i < w.len() {
-        w[i] = v;
+    if at < w.len() {
+        w[at] = v;
     }
 }
 
