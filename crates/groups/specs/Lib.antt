@@ -1,0 +1,7 @@
+-- In the order in which a reader needs them.
+pub mod Lists
+pub mod Groups
+pub mod Keys
+pub mod Stretch
+pub mod Built
+pub mod Steps
