@@ -1,0 +1,4 @@
+pub mod Names
+pub mod Faults
+pub mod Listing
+pub mod Matching

@@ -1,0 +1,212 @@
+// The name filter (`locate_name_indices` and `matches_name` of string_locator.rs): of the given string indices those whose text
+// contains the query, ASCII case ignored. The header's own count and table of strings are used.
+use refusal::Answer;
+use refusal::Refusal;
+use rising::Insertion;
+use string_data::StringText;
+use string_search::Fault;
+use structs::Read32;
+ghost use mathlib.Core.Path.{_≡_};
+ghost use mathlib.Core.Bool.{Bool};
+ghost use mathlib.Core.List.{map};
+ghost use Prim.Native.Nat.{_+_, _≤_, _<_};
+ghost use lib.ListN.{length};
+ghost use Rattle.dalvik.specs.Numbers.{le32};
+ghost use Rattle.dalvik.specs.Ids.{item as itemAt, string-data-off as dataOff};
+ghost use Rattle.string_data.specs.Text.{stringText};
+ghost use Rattle.rising.specs.Found.{Found, Matched};
+ghost use Rattle.string_search.specs.Finds.{Stands};
+ghost use Rattle.string_search.specs.Search.{Decides, faultNumber};
+ghost use Rattle.name_filter.specs.Names.{lowerCase, isAscii, HasName, textFault, firstFault, filterFault, Named, Known, Ready, Stepped};
+
+// A letter A to Z becomes its small letter.
+fn lower(b: u8) -> u8
+    ensures { λ r. ⌜ r ≡ lowerCase b ⌝ }
+{
+    if 0x41 <= b {
+        if b <= 0x5a {
+            return b + 32;
+        }
+    }
+    b
+}
+
+// Whether the query stands at a place of the text, case ignored.
+fn stands_at(text: &[u8], at: usize, query: &[u8]) -> bool
+    requires { ⌜ at + length (now query) ≤ length (now text) ⌝ }
+    ensures { λ r. ⌜ Decides (Stands (map lowerCase (now (text .entry))) (map lowerCase (now (query .entry))) at) r ⌝ }
+{
+    let mut k = 0;
+    while k < query.len() {
+        if lower(text[at + k]) != lower(query[k]) {
+            return false;
+        }
+        k += 1;
+    }
+    true
+}
+
+// Whether the text contains the query, case ignored.
+fn matches_name(text: &[u8], query: &[u8]) -> bool
+    ensures { λ r. ⌜ Decides (HasName (now (text .entry)) (now (query .entry))) r ⌝ }
+{
+    let n = query.len();
+    if text.len() < n {
+        return false;
+    }
+    let last = text.len() - n;
+    let mut at = 0;
+    while at <= last {
+        if stands_at(text, at, query) {
+            return true;
+        }
+        at += 1;
+    }
+    false
+}
+
+fn is_ascii(bytes: &[u8]) -> bool
+    ensures { λ r. ⌜ r ≡ isAscii (now (bytes .entry)) ⌝ }
+{
+    let mut i = 0;
+    while i < bytes.len() {
+        if 128 <= bytes[i] {
+            return false;
+        }
+        i += 1;
+    }
+    true
+}
+
+fn word(file: &[u8], at: usize) -> u32
+    requires { ⌜ at + 4 ≤ length (now file) ⌝ }
+    ensures { λ r. ⌜ r ≡ le32 (now (file .entry)) at ⌝ }
+{
+    let Read32::Value(value) = structs::read_u32(file, at) else {
+        return 0;
+    };
+    value
+}
+
+// The data offset of a string.
+fn data_offset(file: &[u8], table: u32, index: u32) -> usize
+    requires { ⌜ itemAt table 4 (index + 1) ≤ length (now file) ⌝ }
+    ensures { λ r. ⌜ r ≡ dataOff (now (file .entry)) table index ⌝ }
+{
+    word(file, (table as usize) + 4 * (index as usize)) as usize
+}
+
+// What speaks against the string data at an offset: its bytes, or, where a query is asked for, a text that is not ASCII.
+fn text_fault(file: &[u8], offset: usize, asked: bool) -> Fault
+    ensures { λ r. ⌜ faultNumber r ≡ textFault (now (file .entry)) asked (stringText (now (file .entry)) offset) ⌝ }
+{
+    let found = string_data::string_data(file, offset);
+    if let StringText::Refused(why) = found {
+        return Fault::Refused(why);
+    }
+    if !asked {
+        return Fault::Nothing;
+    }
+    if is_ascii(string_data::string_data_bytes(file, offset)) {
+        return Fault::Nothing;
+    }
+    Fault::Refused(Refusal::NotAscii)
+}
+
+// The first fault among the given indices, in their order.
+fn first_fault(file: &[u8], count: u32, table: u32, asked: bool, given: &[u32]) -> Fault
+    requires { ⌜ itemAt table 4 count ≤ length (now file) ⌝ }
+    ensures { λ r. ⌜ faultNumber r ≡ firstFault (now (file .entry)) count table asked (now (given .entry)) ⌝ }
+{
+    let mut i = 0;
+    while i < given.len() {
+        let index = given[i];
+        if count <= index {
+            return Fault::Refused(Refusal::StringIndex);
+        }
+        let fault = text_fault(file, data_offset(file, table, index), asked);
+        if let Fault::Refused(why) = fault {
+            return Fault::Refused(why);
+        }
+        i += 1;
+    }
+    Fault::Nothing
+}
+
+// The first fault but for the lent words.
+fn filter_fault(file: &[u8], given: &[u32], query: &[u8]) -> Fault
+    ensures { λ r. ⌜ faultNumber r ≡ filterFault (now (file .entry)) (now (query .entry)) (now (given .entry)) ⌝ }
+{
+    let len = file.len();
+    if refusal::too_large(len) {
+        return Fault::Refused(Refusal::FileTooLarge);
+    }
+    if len < 0x70 {
+        return Fault::Refused(Refusal::TableOutside);
+    }
+    let count = word(file, 0x38);
+    let table = word(file, 0x3c);
+    if len < (table as usize) + 4 * (count as usize) {
+        return Fault::Refused(Refusal::TableOutside);
+    }
+    if 255 < query.len() {
+        return Fault::Refused(Refusal::BadQuery);
+    }
+    if is_ascii(query) {
+        return first_fault(file, count, table, 0 < query.len(), given);
+    }
+    Fault::Refused(Refusal::BadQuery)
+}
+
+// One given index: it joins the n words held if its text has the name.
+fn name_step(
+    file: &[u8],
+    table: u32,
+    index: u32,
+    query: &[u8],
+    out: &mut [u32],
+    n: usize,
+) -> Insertion
+    requires { ⌜ itemAt table 4 (index + 1) ≤ length (now file) ⌝ }
+    ensures { λ r. ⌜ Stepped (now (file .entry)) table (now (query .entry)) index n (now (out .entry)) (now (out .exit)) r ⌝ }
+{
+    let offset = data_offset(file, table, index);
+    if matches_name(string_data::string_data_bytes(file, offset), query) {
+        return rising::insert(out, n, index);
+    }
+    Insertion::Held(n)
+}
+
+// All given indices.
+fn collect(file: &[u8], table: u32, given: &[u32], query: &[u8], out: &mut [u32]) -> Insertion
+    requires { ⌜ Ready (now file) table (now given) (now out) ⌝ }
+    ensures { λ r. ⌜ Matched (Named (now (file .entry)) table (now (query .entry)) (now (given .entry))) (now (out .entry)) (now (out .exit)) r ⌝ }
+{
+    let mut i = 0;
+    let mut n = 0;
+    while i < given.len() {
+        let Insertion::Held(m) = name_step(file, table, given[i], query, out, n) else {
+            return Insertion::Full;
+        };
+        n = m;
+        i += 1;
+    }
+    Insertion::Held(n)
+}
+
+// The given indices whose string contains the query, rising and without repeats.
+pub fn locate_name_indices(file: &[u8], given: &[u32], query: &[u8], out: &mut [u32]) -> Answer
+    ensures { λ r. ⌜ Found (Named (now (file .entry)) (le32 (now (file .entry)) 0x3c) (now (query .entry)) (now (given .entry))) (filterFault (now (file .entry)) (now (query .entry)) (now (given .entry))) r (now (out .entry)) (now (out .exit)) ⌝ }
+{
+    words::clear(out);
+    let fault = filter_fault(file, given, query);
+    if let Fault::Refused(why) = fault {
+        return Answer::Refused(why);
+    }
+    let table = word(file, 0x3c);
+    let Insertion::Held(n) = collect(file, table, given, query, out) else {
+        words::clear(out);
+        return Answer::Refused(Refusal::LentTooShort);
+    };
+    Answer::Done(n)
+}

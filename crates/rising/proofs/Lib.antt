@@ -1,0 +1,6 @@
+pub mod Search
+pub mod Moves
+pub mod Exits
+pub mod Sets
+pub mod Collected
+pub mod Found

@@ -1,0 +1,67 @@
+-- Finds. There is one first occurrence from a place on, so the finds from there are it and those from its end on.
+--     find-occurs, find-behind, finds-apart        every find is an occurrence, and two share no byte
+--     owned-first, first-owned, later-owned        the owners from a find on
+-- Assumes nothing.
+use Prim.Native.Nat.{ℕ, _+_, _-_, _≤_, _<_}
+use mathlib.Core.Path.{_≡_, ap, sym, subst, _∙_}
+use mathlib.Core.Logic.{_⊎_, inl, inr, ⊎-elim}
+use mathlib.Core.List.{List}
+use lib.ListN.{length, getD, take, drop, length-take, length-drop}
+use lib.Seq.{ext-getD, getD-take, getD-drop}
+use native.Mathlib.Omega.{arith}
+use Rattle.rising.proofs.Sets.{below-or-not}
+use Rattle.string_search.specs.declared.Owner.the-variants.{Entry, Absent}
+use Rattle.string_search.specs.Finds.{Stands, Occurs, First, Find, leftmost, further}
+use Rattle.string_search.specs.Keys.{owner}
+use Rattle.string_search.specs.Search.{OwnsFrom}
+
+-- bytes, one by one
+pub stands-bytes : (s q : List ℕ) (p : ℕ) → p + length q ≤ length s → ((k : ℕ) → k < length q → getD s (p + k) 0 ≡ getD q k 0) → Stands s q p
+stands-bytes s q p h f =
+    let l : length (take (length q) (drop p s)) ≡ length q = simp (length-take, length-drop) (omega arith) in
+    ext-getD 0 (take (length q) (drop p s)) q l (λ i m. getD-take (length q) (drop p s) i 0 (omega arith) ∙ getD-drop p s i 0 ∙ f i (omega arith))
+
+pub byte-stands : (s q : List ℕ) (p k : ℕ) → k < length q → Stands s q p → getD s (p + k) 0 ≡ getD q k 0
+byte-stands s q p k h e = sym (getD-take (length q) (drop p s) k 0 h ∙ getD-drop p s k 0) ∙ ap (λ (l : List ℕ). getD l k 0) e
+
+module _ {s q : List ℕ} {e : ℕ} where
+  first-unique : {from p r : ℕ} → First s q e from p → First s q e from r → p ≡ r
+  first-unique {from} {p} {r} a b =
+      ⊎-elim (λ (l : p < r). absurd (b .none-before p (a .behind) l (a .occurs)))
+      (λ (l : r ≤ p). ⊎-elim (λ (m : r < p). absurd (a .none-before r (b .behind) m (b .occurs))) (λ (m : p ≤ r). omega arith) (below-or-not r p))
+      (below-or-not p r)
+
+  -- a find is the first occurrence, or a find from its end on
+  pub find-cases : {from p r : ℕ} → First s q e from p → Find s q e from r → (r ≡ p) ⊎ Find s q e (p + length q) r
+  find-cases f (leftmost g) = inl (first-unique g f)
+  find-cases {from} {p} {r} f (further {p = p′} g rest) = inr (subst (λ (i : ℕ). Find s q e (i + length q) r) (first-unique g f) rest)
+
+  pub find-occurs : {from r : ℕ} → Find s q e from r → Occurs s q e r
+  find-occurs (leftmost f) = f .occurs
+  find-occurs (further f rest) = find-occurs rest
+
+  pub find-behind : {from r : ℕ} → Find s q e from r → from ≤ r
+  find-behind (leftmost f) = f .behind
+  find-behind {from} {r} (further f rest) = omega (arith, f .behind, find-behind rest)
+
+  -- two finds share no byte
+  pub finds-apart : {from p r : ℕ} → Find s q e from p → Find s q e from r → (p ≡ r) ⊎ ((p + length q ≤ r) ⊎ (r + length q ≤ p))
+  finds-apart {from} {p} {r} (leftmost f) y =
+      ⊎-elim (λ (d : r ≡ p). inl (sym d)) (λ (d : Find s q e (p + length q) r). inr (inl (find-behind d))) (find-cases f y)
+  finds-apart {from} {p} {r} (further {p = p′} f x) y =
+      ⊎-elim (λ (d : r ≡ p′). inr (inr (subst (λ (i : ℕ). i + length q ≤ p) (sym d) (find-behind x)))) (λ (d : Find s q e (p′ + length q) r). finds-apart x d) (find-cases f y)
+
+  -- the owners from a place on are the first find's, if it has one, and those from its end on
+  module _ {ks : List ℕ} {from p : ℕ} (f : First s q e from p) where
+    pub owned-first : (x : ℕ) → OwnsFrom s ks q e from x → (owner ks p ≡ Entry x) ⊎ OwnsFrom s ks q e (p + length q) x
+    owned-first x o =
+        ⊎-elim (λ (d : o .at ≡ p). inl (ap (owner ks) (sym d) ∙ o .owns)) (λ (d : Find s q e (p + length q) (o .at)). inr record { at = o .at; find = d; owns = o .owns }) (find-cases f (o .find))
+
+    pub first-owned : (x : ℕ) → owner ks p ≡ Entry x → OwnsFrom s ks q e from x
+    first-owned x h = record { at = p; find = leftmost f; owns = h }
+
+    pub later-owned : (x : ℕ) → OwnsFrom s ks q e (p + length q) x → OwnsFrom s ks q e from x
+    later-owned x o = record { at = o .at; find = further f (o .find); owns = o .owns }
+
+  pub none-owned : {ks : List ℕ} {from : ℕ} → ((k : ℕ) → from ≤ k → Occurs s q e k → ⊥) → (x : ℕ) → OwnsFrom s ks q e from x → ⊥
+  none-owned n x o = n (o .at) (find-behind (o .find)) (find-occurs (o .find))

@@ -1,0 +1,5 @@
+pub mod Keys
+pub mod Finds
+pub mod Faults
+pub mod Matching
+pub mod Listing

@@ -1,0 +1,40 @@
+use Rattle.string_search.specs.Search.{joined, passed}
+use mathlib.Core.Path.{refl, sym}
+use Rattle.words.proofs.Shared.{met}
+use mathlib.Core.Path.{refl}
+use borrow.Author.Needs.{needs}
+use Rattle.string_search.proofs.match_step.Statement.{statement}
+use Rattle.string_search.proofs.match_step.Tie as tie
+
+owner-of-requires : tie.Need-owner-of-requires
+owner-of-requires c κs = search needs
+
+enum-known-index : tie.Need-enum-known-index
+enum-known-index c = search needs
+
+enum-told : tie.Need-enum-told
+enum-told c = search needs
+
+returns : tie.Need-returns
+returns c = passed (sym (met (c .enum-told .given .1) (c .before .before .owner-of .ensures))) refl refl
+
+insert-requires : tie.Need-insert-requires
+insert-requires c κs = search needs
+
+same-length : tie.Need-same-length
+same-length c = search needs
+
+returns-2 : tie.Need-returns-2
+returns-2 c = joined _ (sym (met (c .before .before .before .before .before .index .given .1) (c .before .before .before .before .before .before .before .owner-of .ensures))) (c .before .before .insert .ensures)
+
+pub match-step-spec : {M : Type 1} → statement M
+match-step-spec =
+    tie.close
+    (tie.spec
+    owner-of-requires
+    enum-known-index
+    enum-told
+    returns
+    insert-requires
+    same-length
+    returns-2)

@@ -1,0 +1,181 @@
+// String search (`_match_string_offset` of string_locator.rs): the indices of the strings in which the query's bytes are found. The
+// text area is read once; the owner of each find is looked up among the sorted keys.
+use refusal::Answer;
+use refusal::Refusal;
+use rising::Insertion;
+ghost use mathlib.Core.Path.{_≡_};
+ghost use Prim.Native.Nat.{_+_, _≤_, _<_};
+ghost use lib.ListN.{length};
+ghost use Rattle.words.specs.Padded.{zeros};
+ghost use Rattle.rising.specs.Rising.{Rising};
+ghost use Rattle.rising.specs.Found.{Found, Matched};
+ghost use Rattle.string_search.specs.Finds.{Stands, NextFind};
+ghost use Rattle.string_search.specs.Keys.{owner, goodKeys};
+ghost use Rattle.string_search.specs.Search.{Decides, Ready, Searched, Stepped, OwnsFrom, Owns, faultNumber, searchFault};
+
+// The string in which a find begins: the entry of a key, by its index, or none.
+pub enum Owner {
+    Entry(u32),
+    Absent,
+}
+
+// The next find.
+pub enum Next {
+    At(usize),
+    Nothing,
+}
+
+// What speaks against a search before it begins.
+pub enum Fault {
+    Refused(Refusal),
+    Nothing,
+}
+
+// Whether the query's bytes stand at a place of the file.
+fn stands_at(file: &[u8], at: usize, query: &[u8]) -> bool
+    requires { ⌜ at + length (now query) ≤ length (now file) ⌝ }
+    ensures { λ r. ⌜ Decides (Stands (now (file .entry)) (now (query .entry)) at) r ⌝ }
+{
+    let mut k = 0;
+    while k < query.len() {
+        if file[at + k] != query[k] {
+            return false;
+        }
+        k += 1;
+    }
+    true
+}
+
+// The first occurrence at or behind `from`, whole before `end`.
+fn next_find(file: &[u8], from: usize, end: usize, query: &[u8]) -> Next
+    requires { ⌜ Searched (now file) (now query) end from ⌝ }
+    ensures { λ r. ⌜ NextFind (now (file .entry)) (now (query .entry)) end from r ⌝ }
+{
+    let n = query.len();
+    let mut at = from;
+    while at + n <= end {
+        if stands_at(file, at, query) {
+            return Next::At(at);
+        }
+        at += 1;
+    }
+    Next::Nothing
+}
+
+// The last key whose offset is not past the find.
+fn owner_of(keys: &[u64], at: usize) -> Owner
+    requires { ⌜ Rising (now keys) × (at < 16777217) ⌝ }
+    ensures { λ r. ⌜ r ≡ owner (now (keys .entry)) at ⌝ }
+{
+    let n = rising::place_wide(keys, (at as u64 + 1) * 4294967296);
+    if n == 0 {
+        return Owner::Absent;
+    }
+    Owner::Entry((keys[n - 1] % 4294967296) as u32)
+}
+
+// One find: the matcher goes on only with an entry, whose index joins the n words held.
+fn match_step(keys: &[u64], at: usize, out: &mut [u32], n: usize) -> Insertion
+    requires { ⌜ Rising (now keys) × (at < 16777217) ⌝ }
+    ensures { λ r. ⌜ Stepped (owner (now (keys .entry)) at) n (now (out .entry)) (now (out .exit)) r ⌝ }
+{
+    let Owner::Entry(index) = owner_of(keys, at) else {
+        return Insertion::Held(n);
+    };
+    rising::insert(out, n, index)
+}
+
+// The owners of all finds from `start` on.
+fn match_string_offset(
+    file: &[u8],
+    keys: &[u64],
+    start: usize,
+    end: usize,
+    query: &[u8],
+    out: &mut [u32],
+) -> Insertion
+    requires { ⌜ Ready (now file) (now keys) (now query) end start (now out) ⌝ }
+    ensures { λ r. ⌜ Matched (OwnsFrom (now (file .entry)) (now (keys .entry)) (now (query .entry)) end start) (now (out .entry)) (now (out .exit)) r ⌝ }
+{
+    let mut from = start;
+    let mut n = 0;
+    loop {
+        let Next::At(at) = next_find(file, from, end, query) else {
+            return Insertion::Held(n);
+        };
+        from = at + query.len();
+        let Insertion::Held(m) = match_step(keys, at, out, n) else {
+            return Insertion::Full;
+        };
+        n = m;
+    }
+}
+
+// Whether the keys rise strictly and none has the index 2^32 - 1.
+fn keys_good(keys: &[u64]) -> bool
+    ensures { λ r. ⌜ r ≡ goodKeys (now (keys .entry)) ⌝ }
+{
+    let mut least: u64 = 0;
+    let mut i = 0;
+    while i < keys.len() {
+        let k = keys[i];
+        if k < least {
+            return false;
+        }
+        if k % 4294967296 == 4294967295 {
+            return false;
+        }
+        least = k + 1;
+        i += 1;
+    }
+    true
+}
+
+// The faults that the searches share, in order, for a query of so many bytes, of which the operation asks `shortest` at least.
+pub fn search_fault(file: &[u8], shortest: usize, bytes: usize, keys: &[u64]) -> Fault
+    ensures { λ r. ⌜ faultNumber r ≡ searchFault (length (now (file .entry))) shortest bytes (now (keys .entry)) ⌝ }
+{
+    if refusal::too_large(file.len()) {
+        return Fault::Refused(Refusal::FileTooLarge);
+    }
+    if bytes < shortest {
+        return Fault::Refused(Refusal::BadQuery);
+    }
+    if 255 < bytes {
+        return Fault::Refused(Refusal::BadQuery);
+    }
+    if keys_good(keys) {
+        return Fault::Nothing;
+    }
+    Fault::Refused(Refusal::LentTable)
+}
+
+// The indices of the strings that own a find of the query in the area from start up to end. An area backward or past the file's end
+// has none.
+pub fn locate(
+    file: &[u8],
+    keys: &[u64],
+    start: usize,
+    end: usize,
+    query: &[u8],
+    out: &mut [u32],
+) -> Answer
+    ensures { λ r. ⌜ Found (Owns (now (file .entry)) (now (keys .entry)) start end (now (query .entry))) (searchFault (length (now (file .entry))) 1 (length (now (query .entry))) (now (keys .entry))) r (now (out .entry)) (now (out .exit)) ⌝ }
+{
+    words::clear(out);
+    let fault = search_fault(file, 1, query.len(), keys);
+    if let Fault::Refused(why) = fault {
+        return Answer::Refused(why);
+    }
+    if end < start {
+        return Answer::Done(0);
+    }
+    if file.len() < end {
+        return Answer::Done(0);
+    }
+    let Insertion::Held(n) = match_string_offset(file, keys, start, end, query, out) else {
+        words::clear(out);
+        return Answer::Refused(Refusal::LentTooShort);
+    };
+    Answer::Done(n)
+}
