@@ -1,0 +1,96 @@
+-- `build_map_bymap` meets its contract: an item walked leaves the items behind it, and adds at most as many codes as the file has bytes.
+-- Assumes nothing.
+use borrow.Author.Needs.{needs}
+use native.Mathlib.Omega.{arith}
+use Rattle.class_data.proofs.build_map_bymap.Statement.{statement}
+use Rattle.class_data.proofs.build_map_bymap.Tie as tie
+use Prim.Native.Nat.{_+_}
+use Rattle.dalvik.specs.Numbers.{le32}
+use mathlib.Core.Path.{refl}
+use Rattle.class_data.proofs.Items.{ByMap, by-words, class-few, successive-again, successive-no, successive-end}
+use Rattle.class_data.proofs.Kept.{seen-found, seen-refused, found-seen, refused-seen}
+
+abbrev Inv-loop : tie.InvT-loop
+Inv-loop buf methods entry triples₀ starts₀ size off left₀ at₀ count₀ triples starts left at count = ByMap buf methods (le32 buf (entry + 4)) (le32 buf (entry + 8)) triples₀ starts₀ triples starts left at count
+
+abbrev μ-loop : tie.MeasureT-loop
+μ-loop buf methods entry triples₀ starts₀ size off left₀ at₀ count₀ triples starts left at count = left
+
+add-word-inside : tie.Need-add-word-inside Inv-loop μ-loop
+add-word-inside c = search needs
+
+word-inside-requires : tie.Need-word-inside-requires Inv-loop μ-loop
+word-inside-requires c κs = search needs
+
+add-word-inside-2 : tie.Need-add-word-inside-2 Inv-loop μ-loop
+add-word-inside-2 c = search needs
+
+word-inside-requires-2 : tie.Need-word-inside-requires-2 Inv-loop μ-loop
+word-inside-requires-2 c κs = search needs
+
+cast-at : tie.Need-cast-at Inv-loop μ-loop
+cast-at c = search needs
+
+loop-holds : tie.Need-loop-holds Inv-loop μ-loop
+loop-holds c = record { rest = by-words _ _ _ _ _ _ _ _ _ (c .before .word-inside .ensures) (c .word-inside2 .ensures); most = omega arith; few = omega arith; long = refl; wide = refl }
+
+class-data-parse-requires : tie.Need-class-data-parse-requires Inv-loop μ-loop
+class-data-parse-requires c κs = let x = c .before .before .before .loop .inv in record { small = c .before .before .before .before .before .before .before .before .before .pre .small; few = omega arith }
+
+enum-known-next : tie.Need-enum-known-next Inv-loop μ-loop
+enum-known-next c = search needs
+
+sub-left : tie.Need-sub-left Inv-loop μ-loop
+sub-left c = search needs
+
+loop-less : tie.Need-loop-less Inv-loop μ-loop
+loop-less c = search needs
+
+loop-again : tie.Need-loop-again Inv-loop μ-loop
+loop-again c = let x = c .before .before .before .before .before .before .before .before .before .before .before .loop .inv in let f = class-few _ _ _ _ _ _ _ _ _ _ (seen-found _ _ _ _ (c .before .before .before .before .before .before .before .class-data-parse .ensures) _ _ (c .before .next .given .1)) in record { rest = successive-again _ _ _ _ _ _ _ _ _ _ _ _ (omega arith) (seen-found _ _ _ _ (c .before .before .before .before .before .before .before .class-data-parse .ensures) _ _ (c .before .next .given .1)) (x .rest); most = omega arith; few = omega arith; long = omega arith; wide = omega arith }
+
+enum-known-r : tie.Need-enum-known-r Inv-loop μ-loop
+enum-known-r c = search needs
+
+same-length : tie.Need-same-length Inv-loop μ-loop
+same-length c = search needs
+
+same-length-2 : tie.Need-same-length-2 Inv-loop μ-loop
+same-length-2 c = search needs
+
+returns : tie.Need-returns Inv-loop μ-loop
+returns c = refused-seen _ _ _ _ (successive-no _ _ _ _ _ _ _ _ _ (omega arith) (seen-refused _ _ _ _ (c .before .before .before .before .before .before .before .class-data-parse .ensures) _ (c .before .r .given .1)) (c .before .before .before .before .before .before .before .before .before .before .before .loop .inv .rest))
+
+same-length-3 : tie.Need-same-length-3 Inv-loop μ-loop
+same-length-3 c = search needs
+
+same-length-4 : tie.Need-same-length-4 Inv-loop μ-loop
+same-length-4 c = search needs
+
+returns-2 : tie.Need-returns-2 Inv-loop μ-loop
+returns-2 c = found-seen _ _ _ _ _ (successive-end _ _ _ _ _ _ _ _ (omega arith) (c .before .loop .inv .rest))
+
+pub build-map-bymap-spec : {M : Type 1} → statement M
+build-map-bymap-spec =
+    tie.close
+    (tie.spec
+    Inv-loop
+    μ-loop
+    add-word-inside
+    word-inside-requires
+    add-word-inside-2
+    word-inside-requires-2
+    cast-at
+    loop-holds
+    class-data-parse-requires
+    enum-known-next
+    sub-left
+    loop-less
+    loop-again
+    enum-known-r
+    same-length
+    same-length-2
+    returns
+    same-length-3
+    same-length-4
+    returns-2)

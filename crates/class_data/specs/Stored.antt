@@ -1,0 +1,27 @@
+-- What the walk leaves in lent words: three words for each code found, and a start word for each method.
+-- Assumes nothing.
+use Prim.Native.Nat.{ℕ, _-_, _/_}
+use mathlib.Core.List.{List, [], _∷_}
+use lib.ListN.{set, replicate}
+use Rattle.dalvik.specs.CodeItem.{Code, start, stop}
+
+-- the buckets of 16 bytes that hold the array's first and last byte
+abbrev pub firstBucket : Code → ℕ
+firstBucket c = start c / 16
+
+abbrev pub lastBucket : Code → ℕ
+lastBucket c = (stop c - 1) / 16
+
+-- first bucket, last bucket and method of each code
+unfoldable pub triplesOf : List Code → List ℕ
+triplesOf [] = []
+triplesOf (c ∷ cs) = firstBucket c ∷ lastBucket c ∷ c .method ∷ triplesOf cs
+
+-- the start word of a method is that of its code found last
+abbrev pub startsFrom : List ℕ → List Code → List ℕ
+startsFrom ws [] = ws
+startsFrom ws (c ∷ cs) = startsFrom (set ws (c .method) (start c)) cs
+
+-- 0 for a method without code; m counts the method ids
+unfoldable pub startsOf : ℕ → List Code → List ℕ
+startsOf m cs = startsFrom (replicate m 0) cs

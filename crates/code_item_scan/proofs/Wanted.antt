@@ -1,0 +1,116 @@
+-- The tables tell which indices are wanted, since each word of the list that was passed has left its trace in them.
+--     isIn       isIn-take, isIn-last, isIn-not-last
+--     TableOf    table-marked, table-passed, bit-zero, bit-one
+--     PlacesOf   places-set
+-- Assumes nothing.
+use mathlib.Core.Path.{_≡_, refl, ap, sym, _∙_}
+use mathlib.Core.Bool.{Bool, true, false, _||_}
+use mathlib.Core.Logic.{⊎-elim}
+use mathlib.Core.List.{List, [], _∷_, _++_}
+use Prim.Native.Nat.{ℕ, zero, suc, _+_, _-_, _%_, _≤_, _<_}
+use native.Mathlib.Numerals.{add-one}
+use native.Mathlib.Omega.{arith}
+use lib.Dec.{eqb}
+use lib.ListN.{length, getD, set, take, replicate}
+use lib.Seq.{take-suc, getD-set-same, getD-set-other}
+use borrow.Author.Tests.{eq-eqb, ne-eqb, eqb-true, eqb-false}
+use Rattle.words.proofs.Shared.{case}
+use Rattle.code_item_scan.specs.Scan.{isIn}
+use Rattle.code_item_scan.specs.Steps.{bit}
+
+or-assoc : (a b c : Bool) → (a || b) || c ≡ a || (b || c)
+or-assoc true b c = refl
+or-assoc false b c = refl
+
+or-false : (a : Bool) → a || false ≡ a
+or-false true = refl
+or-false false = refl
+
+or-true : (a : Bool) → a || true ≡ true
+or-true true = refl
+or-true false = refl
+
+isIn-append : (x : ℕ) (a b : List ℕ) → isIn x (a ++ b) ≡ isIn x a || isIn x b
+isIn-append x [] b = refl
+isIn-append x (y ∷ a) b = ap (λ (t : Bool). eqb x y || t) (isIn-append x a b) ∙ sym (or-assoc (eqb x y) (isIn x a) (isIn x b))
+
+-- one word more
+pub isIn-take : (x : ℕ) (l : List ℕ) (i : ℕ) → i < length l → isIn x (take (i + 1) l) ≡ isIn x (take i l) || eqb x (getD l i 0)
+isIn-take x l i h =
+    rw (add-one i)
+    (rw (take-suc l i 0 h) (isIn-append x (take i l) (getD l i 0 ∷ []) ∙ ap (λ (t : Bool). isIn x (take i l) || t) (or-false (eqb x (getD l i 0)))))
+
+pub isIn-more : (x : ℕ) (l : List ℕ) (i : ℕ) → i < length l → getD l i 0 ≡ x → isIn x (take (i + 1) l) ≡ true
+isIn-more x l i h e = isIn-take x l i h ∙ rw (eq-eqb x (getD l i 0) (sym e)) (or-true (isIn x (take i l)))
+
+pub isIn-no-more : (x : ℕ) (l : List ℕ) (i : ℕ) → i < length l → (getD l i 0 ≡ x → ⊥) → isIn x (take (i + 1) l) ≡ isIn x (take i l)
+isIn-no-more x l i h n = isIn-take x l i h ∙ rw (ne-eqb x (getD l i 0) (λ z. n (sym z))) (or-false (isIn x (take i l)))
+
+-- the same from the longer list
+module _ (x : ℕ) (l : List ℕ) (i : ℕ) (some : 0 < i) (h : i ≤ length l) where
+  pub isIn-last : getD l (i - 1) 0 ≡ x → isIn x (take i l) ≡ true
+  isIn-last e =
+      let k : i ≡ i - 1 + 1 = omega arith in
+      ap (λ (j : ℕ). isIn x (take j l)) k ∙ isIn-more x l (i - 1) (omega arith) e
+
+  pub isIn-not-last : (getD l (i - 1) 0 ≡ x → ⊥) → isIn x (take i l) ≡ isIn x (take (i - 1) l)
+  isIn-not-last n =
+      let k : i ≡ i - 1 + 1 = omega arith in
+      ap (λ (j : ℕ). isIn x (take j l)) k ∙ isIn-no-more x l (i - 1) (omega arith) n
+
+-- the table of the wanted indices of two bytes
+module _ (l t : List ℕ) (i : ℕ) (h : i < length l) (e : (y : ℕ) → y < 65536 → getD t y 0 ≡ bit (isIn y (take i l))) where
+  pub table-marked : length t ≡ 65536 → (y : ℕ) → y < 65536 → getD (set t (getD l i 0) 1) y 0 ≡ bit (isIn y (take (i + 1) l))
+  table-marked n y k =
+      ⊎-elim
+      (λ q.
+      let z : getD l i 0 ≡ y = sym (eqb-true y (getD l i 0) q) in
+      rw (isIn-more y l i h z) (rw z (getD-set-same t y 1 0 (omega arith))))
+      (λ q.
+      let z : getD l i 0 ≡ y → ⊥ = λ f. eqb-false y (getD l i 0) q (sym f) in
+      rw (isIn-no-more y l i h z) (getD-set-other t (getD l i 0) y 1 0 (λ f. z (sym f)) ∙ e y k))
+      (case (eqb y (getD l i 0)))
+
+  pub table-passed : 65536 ≤ getD l i 0 → (y : ℕ) → y < 65536 → getD t y 0 ≡ bit (isIn y (take (i + 1) l))
+  table-passed n y k = rw (isIn-no-more y l i h (λ z. omega arith)) (e y k)
+
+pub bit-zero : (b : Bool) → bit b ≡ 0 → b ≡ false
+bit-zero true e = absurd (omega arith)
+bit-zero false e = refl
+
+pub bit-one : (b : Bool) → (bit b ≡ 0 → ⊥) → b ≡ true
+bit-one true n = refl
+bit-one false n = absurd (n refl)
+
+-- the places of the low halves: none before the first word
+zeros-at : (n i : ℕ) → _≡_ {A = ℕ} (getD (replicate n 0) i 0) 0
+zeros-at zero i = refl
+zeros-at (suc n) zero = refl
+zeros-at (suc n) (suc i) = zeros-at n i
+
+pub places-none : (y : ℕ) → _≡_ {A = ℕ} (getD (replicate 65536 0) y 0) 0
+places-none y = zeros-at 65536 y
+
+pub places-zero : (l : List ℕ) (y p : ℕ) → p ≡ 0 → isIn y (take p l) ≡ isIn y (take 0 l)
+places-zero l y p e = ap (λ (k : ℕ). isIn y (take k l)) e
+
+module _ (l t : List ℕ) (i : ℕ) (h : i < length l) (n : length t ≡ 65536) where
+  abbrev low : ℕ
+  low = getD l i 0 % 65536
+
+  pub places-inside : ((y : ℕ) → getD t y 0 ≤ i) → (y : ℕ) → getD (set t low (i + 1)) y 0 ≤ i + 1
+  places-inside e y =
+      ⊎-elim
+      (λ q. rw (eqb-true y low q) (rw (getD-set-same t low (i + 1) 0 (omega arith)) (omega arith)))
+      (λ q. rw (getD-set-other t low y (i + 1) 0 (eqb-false y low q)) (omega (arith, e y)))
+      (case (eqb y low))
+
+  pub places-set : ((y : ℕ) → isIn y (take (getD t (y % 65536) 0) l) ≡ isIn y (take i l))
+      → (y : ℕ) → isIn y (take (getD (set t low (i + 1)) (y % 65536) 0) l) ≡ isIn y (take (i + 1) l)
+  places-set e y =
+      ⊎-elim
+      (λ q. rw (eqb-true (y % 65536) low q) (rw (getD-set-same t low (i + 1) 0 (omega arith))))
+      (λ q.
+      rw (getD-set-other t low (y % 65536) (i + 1) 0 (eqb-false (y % 65536) low q))
+      (e y ∙ sym (isIn-no-more y l i h (λ z. eqb-false (y % 65536) low q (ap (λ (k : ℕ). k % 65536) (sym z))))))
+      (case (eqb (y % 65536) low))

@@ -1,0 +1,81 @@
+use mathlib.Core.Path.{sym, _∙_}
+use Prim.Native.Nat.{_+_, _-_}
+use native.Mathlib.Omega.{arith}
+use Rattle.dalvik.specs.Instructions.Kind.{strings}
+use mathlib.Core.Logic.{⊎-elim}
+use Rattle.dalvik.specs.Numbers.{byte}
+use Rattle.code_item_scan.proofs.Hits.{named-other, named-short, named-wanted, named-unwanted, width-small, index-four, index-two}
+use borrow.Author.Needs.{needs}
+use Rattle.code_item_scan.proofs.string_hit.Statement.{statement}
+use Rattle.code_item_scan.proofs.string_hit.Tie as tie
+
+shared-slice-read-string-width : tie.Need-shared-slice-read-string-width
+shared-slice-read-string-width c = search needs
+
+string-width-requires : tie.Need-string-width-requires
+string-width-requires c κs = search needs
+
+returns : tie.Need-returns
+returns c =
+    let a = c .before .before .before .before .before .args in
+    named-other (a .s .now) strings (a .wanted .now) (a .end) (a .at) (sym (c .if1 .taken) ∙ c .before .string-width .ensures)
+
+sub-if2 : tie.Need-sub-if2
+sub-if2 c = search needs
+
+add-if2 : tie.Need-add-if2
+add-if2 c = omega (arith, c .before .string-width .ensures, width-small (byte (c .before .before .before .before .before .args .s .now) (c .before .before .before .before .before .args .at)))
+
+returns-2 : tie.Need-returns-2
+returns-2 c =
+    let a = c .before .before .before .before .before .before .args in
+    named-short (a .s .now) strings (a .wanted .now) (a .end) (a .at) (c .before .before .string-width .result) (c .before .before .string-width .ensures) (omega arith)
+
+add-u32-at : tie.Need-add-u32-at
+add-u32-at c = search needs
+
+u32-at-requires : tie.Need-u32-at-requires
+u32-at-requires c κs = search needs
+
+add-u16-at : tie.Need-add-u16-at
+add-u16-at c = search needs
+
+u16-at-requires : tie.Need-u16-at-requires
+u16-at-requires c κs = search needs
+
+is-wanted-requires : tie.Need-is-wanted-requires
+is-wanted-requires c κs = search needs
+
+returns-3 : tie.Need-returns-3
+returns-3 c =
+    let a = c .before .before .before .before .before .before .before .before .before .args in
+    let v = c .before .before .before .before .before .string-width in
+    named-wanted (a .s .now) strings (a .wanted .now) (a .end) (a .at) (v .result) (c .before .before .if3 .x) (v .ensures) (omega arith) (omega arith)
+    (⊎-elim (λ w. w .2 ∙ w .1 .ensures ∙ index-four (a .s .now) (a .at + 2) (v .result) (w .0 .taken)) (λ w. w .2 ∙ w .1 .ensures .is ∙ index-two (a .s .now) (a .at + 2) (v .result) (w .0 .left)) (c .before .before .if3 .came))
+    (sym (c .before .is-wanted .ensures) ∙ c .if4 .taken)
+
+returns-4 : tie.Need-returns-4
+returns-4 c =
+    let a = c .before .before .before .before .before .before .before .before .before .args in
+    let v = c .before .before .before .before .before .string-width in
+    named-unwanted (a .s .now) strings (a .wanted .now) (a .end) (a .at) (v .result) (c .before .before .if3 .x) (v .ensures)
+    (⊎-elim (λ w. w .2 ∙ w .1 .ensures ∙ index-four (a .s .now) (a .at + 2) (v .result) (w .0 .taken)) (λ w. w .2 ∙ w .1 .ensures .is ∙ index-two (a .s .now) (a .at + 2) (v .result) (w .0 .left)) (c .before .before .if3 .came))
+    (sym (c .before .is-wanted .ensures) ∙ c .if4 .left)
+
+pub string-hit-spec : {M : Type 1} → statement M
+string-hit-spec =
+    tie.close
+    (tie.spec
+    shared-slice-read-string-width
+    string-width-requires
+    returns
+    sub-if2
+    add-if2
+    returns-2
+    add-u32-at
+    u32-at-requires
+    add-u16-at
+    u16-at-requires
+    is-wanted-requires
+    returns-3
+    returns-4)

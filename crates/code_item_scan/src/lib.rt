@@ -1,0 +1,389 @@
+// The scan of a code region for instructions that name one of the wanted indices (code_item_scan.rs).
+// Each fast path is a function of its own behind the definition's contract: starts that cannot be hits are skipped, and whether an
+// index is wanted is asked of a table of 65,536 entries that each call prepares.
+ghost use mathlib.Core.Path.{_≡_};
+ghost use mathlib.Core.Bool.{false};
+ghost use Prim.Native.Nat.{_+_, _<_, _≤_};
+ghost use lib.ListN.{length, replicate};
+ghost use Rattle.dalvik.specs.Numbers.{le32};
+ghost use Rattle.dalvik.specs.Instructions.Kind.{strings, types, fields, methods};
+ghost use Rattle.structs.specs.Reads.{ByteAt};
+ghost use Rattle.code_item_scan.specs.Scan.{kindOf, widthOf, isIn, hitsOf, scanOut};
+ghost use Rattle.code_item_scan.specs.Steps.{Read16, TableOf, PlacesOf, named, EvenHit, Skipped, SkippedEven, Collected, Region, isStrings};
+ghost use Rattle.code_item_scan.specs.Answers.{meant, kindRead, marked, Admitted, Cleared, Settled, Gives};
+use refusal::Answer;
+use refusal::Refusal;
+
+// What the index names: document 01's kinds 1 to 4.
+enum Kind {
+    Strings,
+    Types,
+    Fields,
+    Methods,
+}
+
+enum KindRead {
+    Known(Kind),
+    Unknown,
+}
+
+// What stands at one start: the index of a hit, or nothing.
+enum Hit {
+    Mark(u32),
+    Nothing,
+}
+
+// Whether a region is scanned, or why not.
+enum Admission {
+    Scan(Kind),
+    Refuse(Refusal),
+}
+
+fn kind_of(k: u32) -> KindRead
+    ensures { λ r. ⌜ kindRead r ≡ kindOf k ⌝ }
+{
+    match k {
+        1 => KindRead::Known(Kind::Strings),
+        2 => KindRead::Known(Kind::Types),
+        3 => KindRead::Known(Kind::Fields),
+        4 => KindRead::Known(Kind::Methods),
+        _ => KindRead::Unknown,
+    }
+}
+
+fn is_strings(kind: Kind) -> bool
+    ensures { λ r. ⌜ r ≡ isStrings (meant kind) ⌝ }
+{
+    match kind {
+        Kind::Strings => true,
+        Kind::Types => false,
+        Kind::Fields => false,
+        Kind::Methods => false,
+    }
+}
+
+// A byte as a word.
+fn byte_at(s: &[u8], i: usize) -> u32
+    requires { ⌜ i < length (now s) ⌝ }
+    ensures { λ r. ⌜ ByteAt (now (s .entry)) i r ⌝ }
+{
+    s[i] as u32
+}
+
+fn u16_at(s: &[u8], i: usize) -> u32
+    requires { ⌜ i + 2 ≤ length (now s) ⌝ }
+    ensures { λ r. ⌜ Read16 (now (s .entry)) i r ⌝ }
+{
+    byte_at(s, i) + 256 * byte_at(s, i + 1)
+}
+
+fn u32_at(s: &[u8], i: usize) -> u32
+    requires { ⌜ i + 4 ≤ length (now s) ⌝ }
+    ensures { λ r. ⌜ r ≡ le32 (now (s .entry)) i ⌝ }
+{
+    u16_at(s, i) + 65536 * u16_at(s, i + 2)
+}
+
+// The width in bytes of the index that an opcode of the kind names; 0 for another opcode.
+fn string_width(op: u8) -> usize
+    ensures { λ r. ⌜ r ≡ widthOf strings op ⌝ }
+{
+    match op {
+        0x1a => 2,
+        0x1b => 4,
+        _ => 0,
+    }
+}
+
+fn type_width(op: u8) -> usize
+    ensures { λ r. ⌜ r ≡ widthOf types op ⌝ }
+{
+    match op {
+        0x1c | 0x1f | 0x20 | 0x22..=0x25 => 2,
+        _ => 0,
+    }
+}
+
+fn field_width(op: u8) -> usize
+    ensures { λ r. ⌜ r ≡ widthOf fields op ⌝ }
+{
+    match op {
+        0x52..=0x6d => 2,
+        _ => 0,
+    }
+}
+
+fn method_width(op: u8) -> usize
+    ensures { λ r. ⌜ r ≡ widthOf methods op ⌝ }
+{
+    match op {
+        0x6e..=0x72 | 0x74..=0x78 | 0xfa | 0xfb => 2,
+        _ => 0,
+    }
+}
+
+fn width(kind: Kind, op: u8) -> usize
+    ensures { λ r. ⌜ r ≡ widthOf (meant kind) op ⌝ }
+{
+    match kind {
+        Kind::Strings => string_width(op),
+        Kind::Types => type_width(op),
+        Kind::Fields => field_width(op),
+        Kind::Methods => method_width(op),
+    }
+}
+
+// A table of the indices of two bytes: 1 where the index is wanted, else 0.
+fn table_of(wanted: &[u32], table: &mut [u8; 65536])
+    requires { ⌜ now table ≡ replicate 65536 0 ⌝ }
+    ensures { λ _. ⌜ TableOf (now (wanted .entry)) (now (table .exit)) ⌝ }
+{
+    let mut i = 0;
+    while i < wanted.len() {
+        let x = wanted[i];
+        if x < 65536 {
+            table[x as usize] = 1;
+        }
+        i += 1;
+    }
+}
+
+// For each low half of an index, how many words of `wanted` lead up to the last one with that low half, itself included; 0 for none.
+fn places_of(wanted: &[u32], places: &mut [usize; 65536])
+    requires { ⌜ now places ≡ replicate 65536 0 ⌝ }
+    ensures { λ _. ⌜ PlacesOf (now (wanted .entry)) (now (places .exit)) ⌝ }
+{
+    let mut i = 0;
+    while i < wanted.len() {
+        let low = (wanted[i] % 65536) as usize;
+        i += 1;
+        places[low] = i;
+    }
+}
+
+// Whether x is wanted. The search goes back from the last word with the low half of x: most often that is x, or there is none.
+fn is_wanted(wanted: &[u32], places: &[usize; 65536], x: u32) -> bool
+    requires { ⌜ PlacesOf (now wanted) (now places) ⌝ }
+    ensures { λ r. ⌜ r ≡ isIn x (now (wanted .entry)) ⌝ }
+{
+    let mut i = places[(x % 65536) as usize];
+    while 0 < i {
+        i -= 1;
+        if wanted[i] == x {
+            return true;
+        }
+    }
+    false
+}
+
+// A hit of a string index, of two bytes or of four.
+fn string_hit(s: &[u8], end: usize, wanted: &[u32], places: &[usize; 65536], at: usize) -> Hit
+    requires { ⌜ (at + 4 ≤ end) × (end ≤ length (now s)) × PlacesOf (now wanted) (now places) ⌝ }
+    ensures { λ r. ⌜ marked r ≡ named (now (s .entry)) strings (now (wanted .entry)) end at ⌝ }
+{
+    let w = string_width(s[at]);
+    if w == 0 {
+        return Hit::Nothing;
+    }
+    if end - at < 2 + w {
+        return Hit::Nothing;
+    }
+    let x = if w == 4 {
+        u32_at(s, at + 2)
+    } else {
+        u16_at(s, at + 2)
+    };
+    if is_wanted(wanted, places, x) {
+        return Hit::Mark(x);
+    }
+    Hit::Nothing
+}
+
+// The next start from `start` on whose byte opens a string instruction, or the end.
+fn skip(s: &[u8], end: usize, start: usize) -> usize
+    requires { ⌜ (start ≤ end) × (end ≤ length (now s)) ⌝ }
+    ensures { λ r. ⌜ Skipped (now (s .entry)) end start r ⌝ }
+{
+    let mut at = start;
+    while at < end {
+        let op = s[at];
+        if 0x1a <= op {
+            if op <= 0x1b {
+                return at;
+            }
+        }
+        at += 1;
+    }
+    at
+}
+
+// The string hits of a region, and how many there are: stored as far as there is room.
+fn collect_strings(
+    s: &[u8],
+    start: usize,
+    end: usize,
+    wanted: &[u32],
+    offs: &mut [u32],
+    marks: &mut [u32],
+) -> usize
+    requires { ⌜ Region (now s) start end ⌝ }
+    ensures { λ r. ⌜ Collected (hitsOf (now (s .entry)) strings (now (wanted .entry)) start end) (now (offs .entry)) (now (marks .entry)) (now (offs .exit)) (now (marks .exit)) r ⌝ }
+{
+    let mut places = [0usize; 65536];
+    places_of(wanted, &mut places);
+    let mut at = skip(s, end, start);
+    let mut n: usize = 0;
+    while 4 <= end - at {
+        let h = string_hit(s, end, wanted, &places, at);
+        if let Hit::Mark(x) = h {
+            words::put(offs, n, at as u32);
+            words::put(marks, n, x);
+            n += 1;
+        }
+        at = skip(s, end, at + 1);
+    }
+    n
+}
+
+// A hit of a kind whose indices have two bytes. The index is tested first: few are wanted.
+fn even_hit(s: &[u8], kind: Kind, table: &[u8; 65536], at: usize) -> Hit
+    requires { ⌜ (at + 4 ≤ length (now s)) × (length (now table) ≡ 65536) × (isStrings (meant kind) ≡ false) ⌝ }
+    ensures { λ r. ⌜ EvenHit (now (s .entry)) (meant kind) (now (table .entry)) at (marked r) ⌝ }
+{
+    let x = u16_at(s, at + 2);
+    if table[x as usize] == 0 {
+        return Hit::Nothing;
+    }
+    if width(kind, s[at]) == 0 {
+        return Hit::Nothing;
+    }
+    Hit::Mark(x)
+}
+
+// The next of every second start from `start` on at which a wanted index of two bytes stands, or one too near the end for an index.
+fn skip_even(s: &[u8], end: usize, table: &[u8; 65536], start: usize) -> usize
+    requires { ⌜ (start ≤ end) × (end ≤ length (now s)) × (length (now table) ≡ 65536) ⌝ }
+    ensures { λ r. ⌜ SkippedEven (now (s .entry)) end (now (table .entry)) start r ⌝ }
+{
+    let mut at = start;
+    while 4 <= end - at {
+        let x = u16_at(s, at + 2);
+        if table[x as usize] != 0 {
+            return at;
+        }
+        at += 2;
+    }
+    at
+}
+
+// The hits of a kind other than strings in a region, and how many there are: stored as far as there is room.
+fn collect_even(
+    s: &[u8],
+    start: usize,
+    end: usize,
+    kind: Kind,
+    wanted: &[u32],
+    offs: &mut [u32],
+    marks: &mut [u32],
+) -> usize
+    requires { ⌜ Region (now s) start end × (isStrings (meant kind) ≡ false) ⌝ }
+    ensures { λ r. ⌜ Collected (hitsOf (now (s .entry)) (meant kind) (now (wanted .entry)) start end) (now (offs .entry)) (now (marks .entry)) (now (offs .exit)) (now (marks .exit)) r ⌝ }
+{
+    let mut table = [0u8; 65536];
+    table_of(wanted, &mut table);
+    let mut at = skip_even(s, end, &table, start);
+    let mut n: usize = 0;
+    while 4 <= end - at {
+        let h = even_hit(s, kind, &table, at);
+        if let Hit::Mark(x) = h {
+            words::put(offs, n, at as u32);
+            words::put(marks, n, x);
+            n += 1;
+        }
+        at = skip_even(s, end, &table, at + 2);
+    }
+    n
+}
+
+// The hits of a region, and how many there are: stored as far as there is room.
+fn collect(
+    s: &[u8],
+    start: usize,
+    end: usize,
+    kind: Kind,
+    wanted: &[u32],
+    offs: &mut [u32],
+    marks: &mut [u32],
+) -> usize
+    requires { ⌜ Region (now s) start end ⌝ }
+    ensures { λ r. ⌜ Collected (hitsOf (now (s .entry)) (meant kind) (now (wanted .entry)) start end) (now (offs .entry)) (now (marks .entry)) (now (offs .exit)) (now (marks .exit)) r ⌝ }
+{
+    if is_strings(kind) {
+        return collect_strings(s, start, end, wanted, offs, marks);
+    }
+    collect_even(s, start, end, kind, wanted, offs, marks)
+}
+
+// The refusals that need no scan: 1, 2, 12.
+fn admit(len: usize, start: usize, end: usize, kind: u32) -> Admission
+    ensures { λ r. ⌜ Admitted len start end kind r ⌝ }
+{
+    if refusal::too_large(len) {
+        return Admission::Refuse(Refusal::FileTooLarge);
+    }
+    let KindRead::Known(k) = kind_of(kind) else {
+        return Admission::Refuse(Refusal::UnknownKind);
+    };
+    if end < start {
+        return Admission::Refuse(Refusal::RegionOutside);
+    }
+    if len < end {
+        return Admission::Refuse(Refusal::RegionOutside);
+    }
+    Admission::Scan(k)
+}
+
+fn clear_both(offs: &mut [u32], marks: &mut [u32])
+    ensures { λ _. ⌜ Cleared (now (offs .entry)) (now (marks .entry)) (now (offs .exit)) (now (marks .exit)) ⌝ }
+{
+    words::clear(offs);
+    words::clear(marks);
+}
+
+// The answer for n hits: 4 where a lent slice cannot hold them, and then both are cleared.
+fn settle(n: usize, offs: &mut [u32], marks: &mut [u32]) -> Answer
+    ensures { λ r. ⌜ Settled n (now (offs .entry)) (now (marks .entry)) (now (offs .exit)) (now (marks .exit)) r ⌝ }
+{
+    if n <= offs.len() {
+        if n <= marks.len() {
+            return Answer::Done(n);
+        }
+    }
+    clear_both(offs, marks);
+    Answer::Refused(Refusal::LentTooShort)
+}
+
+// The starts in the region from `start` to `end` of a file that look like an instruction of the kind with a wanted index, rising, and
+// beside each start the index that stands there. Kinds are document 01's 1 to 4. `wanted` is in any order and may repeat.
+// Refusals 1, 2, 12, 4, in this order.
+pub fn scan(
+    file: &[u8],
+    start: u32,
+    end: u32,
+    kind: u32,
+    wanted: &[u32],
+    offs: &mut [u32],
+    marks: &mut [u32],
+) -> Answer
+    ensures { λ r. ⌜ Gives (scanOut (now (file .entry)) kind (now (wanted .entry)) start end (length (now (offs .entry))) (length (now (marks .entry)))) r (now (offs .entry)) (now (marks .entry)) (now (offs .exit)) (now (marks .exit)) ⌝ }
+{
+    clear_both(offs, marks);
+    let a = admit(file.len(), start as usize, end as usize, kind);
+    match a {
+        Admission::Refuse(why) => Answer::Refused(why),
+        Admission::Scan(k) => {
+            let n = collect(file, start as usize, end as usize, k, wanted, offs, marks);
+            settle(n, offs, marks)
+        }
+    }
+}

@@ -1,0 +1,116 @@
+-- Laws from the walk over the class data to the outcome of the build. Both test the file's size and the start words first, so a refusal
+-- of the walk is the build's, and codes found are sound: the walk refuses an empty array and one that is not inside.
+--     lost                          a refusal of the walk
+--     gained, build-whole           codes found
+--     sound-at                      what the walk lets pass
+--     taken-triples, gives-gained   what `codes` leaves, and the build makes of it
+-- Assumes nothing.
+use mathlib.Core.Path.{_≡_, sym, ap, subst, subst⁻¹, _∙_}
+use mathlib.Core.List.{List, [], _∷_}
+use mathlib.Core.Bool.{Bool, true, false, cond, _&&_}
+use Prim.Native.Nat.{ℕ, zero, suc, _-_, _*_, _≤_, _<_}
+use native.Mathlib.Omega.{arith}
+use lib.Dec.{leb}
+use lib.ListN.{length, getD}
+use borrow.Author.Tests.{le-ltb, le-leb}
+use Rattle.words.specs.Padded.{padded}
+use Rattle.refusal.specs.Refusals.{refusalNumber, tooLarge}
+use Rattle.refusal.specs.declared.Refusal.{Refusal}
+use Rattle.refusal.specs.declared.Refusal.the-variants.{FileTooLarge, LentTooShort}
+use Rattle.tinydex.specs.declared.DexHeader.{DexHeader}
+use Rattle.dalvik.specs.CodeItem.{Code}
+use Rattle.class_data.specs.Codes.{Walk, codesOf}
+use Rattle.class_data.specs.Codes.Walk.{refused, found}
+use Rattle.class_data.specs.Found.{fitting, codesIn}
+use Rattle.class_data.specs.Stored.{triplesOf, startsOf}
+use Rattle.class_data.proofs.Found.{CodeIn, Each, codes-sound, Taken}
+use Rattle.code_table.specs.Slots.{tableOf, baseOf, topOf}
+use Rattle.code_table.specs.Build.{Room, Build, noBuild, builtFrom, buildOut, wholeBuild, mostShares}
+use Rattle.code_table.specs.Answer.{roomOf, GivesBuild, Parsed}
+use Rattle.code_table.specs.Steps.{noCode, Sound, Triples, Finished}
+use Rattle.code_table.specs.declared.Built.{Built}
+use Rattle.code_table.proofs.Build.{from-whole}
+
+-- what a walk refuses, an outcome refuses with the same number
+abbrev Loses : Refusal → Walk → Build → Type 0
+Loses r w b = refused r ≡ w → b ≡ noBuild (refusalNumber r)
+
+both : (r : Refusal) (t : Bool) (w v : Walk) (b c : Build) → Loses r w b → Loses r v c → Loses r (cond t w v) (cond t b c)
+both r true w v b c f g = f
+both r false w v b c f g = g
+
+itself : (r q : Refusal) → Loses r (refused q) (noBuild (refusalNumber q))
+itself r q e =
+    let z : q ≡ r = cc in
+    ap (λ (x : Refusal). noBuild (refusalNumber x)) z
+
+-- codes found are no refusal
+apart : {A : Type 0} (r : Refusal) (cs : List Code) (n : ℕ) → refused r ≡ found cs n → A
+apart r cs n e =
+    let z : _≡_ {A = ℕ} 0 1 = cc in
+    absurd (omega arith)
+
+unfit : (r : Refusal) (w : Walk) (o : Build) (a b c d : Bool) → (refused r ≡ w → ⊥)
+    → Loses r (cond a w (refused LentTooShort)) (cond (a && b && c && d) o (noBuild 4))
+unfit r w o true b c d f q = absurd (f q)
+unfit r w o false b c d f q = itself r LentTooShort q
+
+module _ (s : List ℕ) (h : DexHeader) (room : Room) (r : Refusal) where
+  fits-not : (m : ℕ) (w : Walk) → Loses r (fitting (room .triples) w) (builtFrom m room w)
+  fits-not m (refused q) e = itself r q e
+  fits-not m (found cs n) e =
+      unfit r (found cs n) (wholeBuild m cs) (leb (3 * length cs) (room .triples)) (leb (topOf cs - baseOf cs) (room .slots))
+      (leb (length (tableOf cs .shares)) (room .shares)) (leb (length (tableOf cs .shares)) mostShares) (λ q. apart r cs n q) e
+
+  pub lost : refused r ≡ codesIn s h (room .triples) (room .starts) → buildOut s h room ≡ noBuild (refusalNumber r)
+  unfolding codesIn buildOut
+  lost =
+      both r (tooLarge (length s)) _ _ _ _ (itself r FileTooLarge)
+      (both r (leb (h .methods .size) (room .starts)) _ _ _ _ (fits-not (h .methods .size) (codesOf s h)) (itself r LentTooShort))
+
+pub gained : (s : List ℕ) (h : DexHeader) (room : Room) (w : Walk) → w ≡ codesOf s h → length s ≤ 16777216 → h .methods .size ≤ room .starts
+    → buildOut s h room ≡ builtFrom (h .methods .size) room w
+unfolding buildOut
+gained s h room w e p q = rw (le-ltb 16777216 (length s) p, le-leb (h .methods .size) (room .starts) q, e)
+
+-- lent words that suffice
+pub build-whole : (s : List ℕ) (h : DexHeader) (room : Room) (cs : List Code) (e : ℕ) → found cs e ≡ codesOf s h → length s ≤ 16777216
+    → h .methods .size ≤ room .starts → 3 * length cs ≤ room .triples → topOf cs - baseOf cs ≤ room .slots
+    → length (tableOf cs .shares) ≤ room .shares → length (tableOf cs .shares) ≤ mostShares → buildOut s h room ≡ wholeBuild (h .methods .size) cs
+build-whole s h room cs e w p q a b c d = gained s h room (found cs e) w p q ∙ from-whole (h .methods .size) e room cs a b c d
+
+-- what holds of each code holds of code i
+each-at : (P : Code → Type 0) (cs : List Code) → Each P cs → (i : ℕ) → i < length cs → P (getD cs i noCode)
+each-at P [] E i h = absurd (omega arith)
+each-at P (c ∷ cs) E zero h = E .0
+each-at P (c ∷ cs) E (suc i) h = each-at P cs (E .1) i (omega arith)
+
+sound-code : (s : List ℕ) (m : ℕ) (c : Code) → length s ≤ 16777216 → CodeIn s m c → Sound c
+sound-code s m c h C =
+    let p = C .some in
+    let q = C .inside in
+    record { rises = omega arith; inside = omega arith; small = C .small }
+
+-- codes found are sound
+pub sound-at : (s : List ℕ) (h : DexHeader) (cs : List Code) (e : ℕ) → found cs e ≡ codesOf s h → length s ≤ 16777216
+    → (i : ℕ) → i < length cs → Sound (getD cs i noCode)
+sound-at s h cs e w p i q = sound-code s (h .methods .size) _ p (each-at _ cs (codes-sound s h cs e w) i q)
+
+module _ (s : List ℕ) (h : DexHeader) (n : ℕ) (zs ts zs₁ ts₁ : List ℕ) (K : Taken s h n ts ts₁ zs zs₁) (lt : length ts₁ ≡ length ts) where
+  pub taken-triples : Triples ts₁ n (K .codes)
+  taken-triples = record {
+    words = K .triples ∙ ap (λ (k : ℕ). padded k (triplesOf (K .codes))) (sym lt);
+    there = omega (arith, K .fits, K .count);
+    count = sym (K .count);
+    sound = λ i q. sound-at s h (K .codes) (K .next) (K .walk) (K .small) i (omega (arith, K .count));
+  }
+
+  pub gives-gained : (xs ws xs₁ ws₁ : List ℕ) → length zs₁ ≡ length zs → length xs₁ ≡ length xs → length ws₁ ≡ length ws
+      → (r : Built) (zs₂ ts₂ xs₂ ws₂ : List ℕ) → Finished n zs₁ ts₁ xs₁ ws₁ r zs₂ ts₂ xs₂ ws₂ → Parsed s h zs ts xs ws r zs₂ ts₂ xs₂ ws₂
+  gives-gained xs ws xs₁ ws₁ lz lx lw r zs₂ ts₂ xs₂ ws₂ F =
+      let room = roomOf zs ts xs ws in
+      let e : roomOf zs₁ ts₁ xs₁ ws₁ ≡ room = rw (lz, lt, lx, lw) in
+      let G = F (h .methods .size) (K .next) (K .codes) taken-triples (K .starts ∙ ap (λ (k : ℕ). padded k (startsOf (h .methods .size) (K .codes))) (sym lz)) in
+      let q : buildOut s h room ≡ builtFrom (h .methods .size) room (found (K .codes) (K .next)) = gained s h room _ (K .walk) (K .small) (K .room) in
+      subst⁻¹ (λ (o : Build). GivesBuild o room r zs₂ ts₂ xs₂ ws₂) q
+      (subst (λ (x : Room). GivesBuild (builtFrom (h .methods .size) x (found (K .codes) (K .next))) x r zs₂ ts₂ xs₂ ws₂) e G)

@@ -1,0 +1,4 @@
+pub mod Slots
+pub mod Build
+pub mod Answer
+pub mod Steps

@@ -1,0 +1,5 @@
+pub mod Steps
+pub mod Walking
+pub mod Tables
+pub mod Entries
+pub mod Whole

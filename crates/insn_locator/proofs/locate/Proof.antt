@@ -1,0 +1,160 @@
+use Rattle.words.specs.Padded.{zeros}
+use lib.ListN.{take, drop, length-append, length-drop}
+use mathlib.Core.List.{_++_}
+use Prim.Native.Nat.{_≤_}
+use Rattle.insn_locator.proofs.Whole.{locate-long, locate-room, locate-further, locate-fault, locate-done, take-zeros}
+use Rattle.insn_locator.specs.Answers.{tables}
+use Rattle.refusal.proofs.Outcomes.{gives-refused, gives-done}
+use Rattle.refusal.specs.declared.Refusal.the-variants.{FileTooLarge, LentTooShort, LentTable}
+use Rattle.words.proofs.Shared.{met}
+use lib.ListN.{length, length-take}
+use native.Mathlib.Omega.{arith}
+use mathlib.Core.Path.{_≡_, ap, _∙_}
+use borrow.Author.Needs.{needs}
+use Rattle.insn_locator.proofs.locate.Statement.{statement}
+use Rattle.insn_locator.proofs.locate.Tie as tie
+
+clear-requires : tie.Need-clear-requires
+clear-requires c κs = search needs
+
+clear-requires-2 : tie.Need-clear-requires-2
+clear-requires-2 c κs = search needs
+
+too-large-requires : tie.Need-too-large-requires
+too-large-requires c κs = search needs
+
+same-length : tie.Need-same-length
+same-length c = search needs
+
+same-length-2 : tie.Need-same-length-2
+same-length-2 c = search needs
+
+returns : tie.Need-returns
+returns c =
+    let a = c .before .before .before .before .before .before .before .before .before .before .before .before .before .before .before .before .before .args in
+    record {
+      answer = gives-refused _ (a .answers .now) _ FileTooLarge (locate-long (a .file .now) (tables (a .base) (a .slots .now) (a .starts .now) (a .shares .now)) (a .entries .now) (length (a .answers .now)) (length (a .further .now)) (met (c .before .too-large .ensures) (c .if1 .taken))) (c .before .before .before .before .clear2 .ensures);
+      further = c .before .before .before .before .before .before .before .before .clear .ensures;
+    }
+
+same-length-3 : tie.Need-same-length-3
+same-length-3 c = search needs
+
+same-length-4 : tie.Need-same-length-4
+same-length-4 c = search needs
+
+returns-2 : tie.Need-returns-2
+returns-2 c =
+    let a = c .before .before .before .before .before .before .before .before .before .before .before .before .before .before .before .before .before .before .args in
+    record {
+      answer = gives-refused _ (a .answers .now) _ LentTooShort (locate-room (a .file .now) (tables (a .base) (a .slots .now) (a .starts .now) (a .shares .now)) (a .entries .now) (length (a .answers .now)) (length (a .further .now)) (met (c .before .before .too-large .ensures) (c .before .if1 .left)) (omega (arith, c .before .before .before .before .before .clear2 .kept .0))) (c .before .before .before .before .before .clear2 .ensures);
+      further = c .before .before .before .before .before .before .before .before .before .clear .ensures;
+    }
+
+same-length-5 : tie.Need-same-length-5
+same-length-5 c = search needs
+
+same-length-6 : tie.Need-same-length-6
+same-length-6 c = search needs
+
+returns-3 : tie.Need-returns-3
+returns-3 c =
+    let a = c .before .before .before .before .before .before .before .before .before .before .before .before .before .before .before .before .before .before .before .args in
+    record {
+      answer = gives-refused _ (a .answers .now) _ LentTooShort (locate-further (a .file .now) (tables (a .base) (a .slots .now) (a .starts .now) (a .shares .now)) (a .entries .now) (length (a .answers .now)) (length (a .further .now)) (met (c .before .before .before .too-large .ensures) (c .before .before .if1 .left)) (omega (arith, c .before .before .before .before .before .before .clear2 .kept .0)) (omega (arith, c .before .before .before .before .before .before .before .before .before .before .clear .kept .0))) (c .before .before .before .before .before .before .clear2 .ensures);
+      further = c .before .before .before .before .before .before .before .before .before .before .clear .ensures;
+    }
+
+slice-relend-prefix-locate-list : tie.Need-slice-relend-prefix-locate-list
+slice-relend-prefix-locate-list c = search needs
+
+slice-aggregate-locate-list : tie.Need-slice-aggregate-locate-list
+slice-aggregate-locate-list c = simp length-take (omega (arith, c .before .before .before .before .before .before .before .before .before .before .before .clear .kept .0))
+
+locate-list-requires : tie.Need-locate-list-requires
+locate-list-requires c κs = search needs
+
+clear-requires-3 : tie.Need-clear-requires-3
+clear-requires-3 c κs = search needs
+
+same-length-7 : tie.Need-same-length-7
+same-length-7 c = search needs
+
+same-length-8 : tie.Need-same-length-8
+same-length-8 c = search needs
+
+returns-4 : tie.Need-returns-4
+returns-4 c =
+    let a = c .before .before .before .before .before .before .before .before .before .before .before .before .before .before .before .before .before .before .before .before .before .before .before .before .before .before .before .before .before .before .before .args in
+    let n = length (a .starts .now) in
+    let run = c .before .before .before .before .before .before .before .before .before .locate-list in
+    let cleared = c .before .before .before .before .before .before .before .before .before .before .before .before .before .before .before .before .before .before .clear2 in
+    let unset = c .before .before .before .before .before .before .before .before .before .before .before .before .before .before .before .before .before .before .before .before .before .before .clear in
+    let fits = met (c .before .before .before .before .before .before .before .before .before .before .before .before .before .before .before .too-large .ensures) (c .before .before .before .before .before .before .before .before .before .before .before .before .before .before .if1 .left) in
+    let room : length (a .entries .now) ≤ length (a .answers .now) = omega (arith, cleared .kept .0) in
+    let known : n ≤ length (a .further .now) = omega (arith, unset .kept .0) in
+    let none-yet = ap (take n) (unset .ensures) ∙ take-zeros n (length (a .further .now)) known in
+    let whole : length (run .last .1 .1 .1 .1 .1 .1 .0 ++ drop n (unset .last .0)) ≡ length (a .further .now) =
+    simp (length-append, length-drop) (omega (arith, run .kept, unset .kept .0, length-take n (unset .last .0))) in
+    let ran = locate-done (a .file .now) (tables (a .base) (a .slots .now) (a .starts .now) (a .shares .now)) (a .entries .now) (length (a .answers .now)) (length (a .further .now)) fits room known _ none-yet (cleared .last .0) _ (cleared .ensures) (rw (c .if4 .taken) at (run .ensures)) in
+    record {
+      answer = gives-done _ (a .answers .now) _ (length (a .entries .now)) (ran .list) (ran .outcome) (ran .count) (ran .words);
+      further = c .before .before .before .clear3 .ensures ∙ ap zeros whole;
+    }
+
+clear-requires-4 : tie.Need-clear-requires-4
+clear-requires-4 c κs = search needs
+
+same-length-9 : tie.Need-same-length-9
+same-length-9 c = search needs
+
+same-length-10 : tie.Need-same-length-10
+same-length-10 c = search needs
+
+returns-5 : tie.Need-returns-5
+returns-5 c =
+    let a = c .before .before .before .before .before .before .before .before .before .before .before .before .before .before .before .before .before .before .before .before .before .before .before .before .before .before .before .before .before .before .before .before .before .before .before .args in
+    let n = length (a .starts .now) in
+    let run = c .before .before .before .before .before .before .before .before .before .before .before .before .before .locate-list in
+    let cleared = c .before .before .before .before .before .before .before .before .before .before .before .before .before .before .before .before .before .before .before .before .before .before .clear2 in
+    let unset = c .before .before .before .before .before .before .before .before .before .before .before .before .before .before .before .before .before .before .before .before .before .before .before .before .before .before .clear in
+    let fits = met (c .before .before .before .before .before .before .before .before .before .before .before .before .before .before .before .before .before .before .before .too-large .ensures) (c .before .before .before .before .before .before .before .before .before .before .before .before .before .before .before .before .before .before .if1 .left) in
+    let room : length (a .entries .now) ≤ length (a .answers .now) = omega (arith, cleared .kept .0) in
+    let known : n ≤ length (a .further .now) = omega (arith, unset .kept .0) in
+    let none-yet = ap (take n) (unset .ensures) ∙ take-zeros n (length (a .further .now)) known in
+    let whole : length (run .last .1 .1 .1 .1 .1 .1 .0 ++ drop n (unset .last .0)) ≡ length (a .further .now) =
+    simp (length-append, length-drop) (omega (arith, run .kept, unset .kept .0, length-take n (unset .last .0))) in
+    let fault = locate-fault (a .file .now) (tables (a .base) (a .slots .now) (a .starts .now) (a .shares .now)) (a .entries .now) (length (a .answers .now)) (length (a .further .now)) fits room known _ none-yet (cleared .last .0) (rw (c .before .before .before .before .if4 .left) at (run .ensures)) in
+    let all : length (run .last .1 .1 .1 .1 .1 .1 .1 .0) ≡ length (a .answers .now) = omega (arith, run .kept, cleared .kept .0) in
+    record {
+      answer = gives-refused _ (a .answers .now) _ LentTable fault (c .before .before .clear4 .ensures ∙ ap zeros all);
+      further = c .before .before .before .before .before .before .before .clear3 .ensures ∙ ap zeros whole;
+    }
+
+pub locate-spec : {M : Type 1} → statement M
+locate-spec =
+    tie.close
+    (tie.spec
+    clear-requires
+    clear-requires-2
+    too-large-requires
+    same-length
+    same-length-2
+    returns
+    same-length-3
+    same-length-4
+    returns-2
+    same-length-5
+    same-length-6
+    returns-3
+    slice-relend-prefix-locate-list
+    slice-aggregate-locate-list
+    locate-list-requires
+    clear-requires-3
+    same-length-7
+    same-length-8
+    returns-4
+    clear-requires-4
+    same-length-9
+    same-length-10
+    returns-5)

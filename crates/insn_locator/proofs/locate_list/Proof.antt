@@ -1,0 +1,102 @@
+use Rattle.insn_locator.proofs.Entries.{rest, rest-fault, rest-answer, rest-end}
+use Rattle.insn_locator.specs.Answers.{tables, stored}
+use Rattle.insn_locator.specs.Locate.{locateFrom}
+use lib.ListN.{length}
+use mathlib.Core.Path.{_≡_, refl, _∙_}
+use Prim.Native.Nat.{_-_, _≤_}
+use borrow.Author.Needs.{needs}
+use native.Mathlib.Omega.{arith}
+use Rattle.insn_locator.proofs.locate_list.Statement.{statement}
+use Rattle.insn_locator.proofs.locate_list.Tie as tie
+
+abbrev Inv-loop : tie.InvT-loop
+Inv-loop buf base slots starts shares entries last₀ answers₀ i₀ last answers i =
+    (stored answers i (rest buf (tables base slots starts shares) entries i last) ≡ stored answers₀ 0 (locateFrom buf (tables base slots starts shares) last₀ entries))
+    × (i ≤ length entries) × (length last ≡ length last₀) × (length answers ≡ length answers₀)
+
+abbrev μ-loop : tie.MeasureT-loop
+μ-loop buf base slots starts shares entries last₀ answers₀ i₀ last answers i = length entries - i
+
+loop-holds : tie.Need-loop-holds Inv-loop μ-loop
+loop-holds c = (refl, search needs, search needs, search needs)
+
+mul-locate-one : tie.Need-mul-locate-one Inv-loop μ-loop
+mul-locate-one c = search needs
+
+shared-slice-read-locate-one : tie.Need-shared-slice-read-locate-one Inv-loop μ-loop
+shared-slice-read-locate-one c = search needs
+
+locate-one-requires : tie.Need-locate-one-requires Inv-loop μ-loop
+locate-one-requires c κs = search needs
+
+enum-known-word : tie.Need-enum-known-word Inv-loop μ-loop
+enum-known-word c = search needs
+
+enum-told : tie.Need-enum-told Inv-loop μ-loop
+enum-told c = search needs
+
+same-length : tie.Need-same-length Inv-loop μ-loop
+same-length c = search needs
+
+same-length-2 : tie.Need-same-length-2 Inv-loop μ-loop
+same-length-2 c = search needs
+
+returns : tie.Need-returns Inv-loop μ-loop
+returns c =
+    let a = c .before .before .before .before .before .before .before .before .before .before .before .before .before .before .before .before .args in
+    let k = c .before .before .before .before .before .before .before .before .loop in
+    rest-fault (a .buf .now) (tables (a .base) (a .slots .now) (a .starts .now) (a .shares .now)) (a .entries .now) (k .i) (k .last) (k .answers) (c .before .before .before .before .before .before .before .loop-test .taken) (rw (c .enum-told .given .1) at (c .before .before .before .before .locate-one .ensures)) ∙ k .inv .0
+
+put-requires : tie.Need-put-requires Inv-loop μ-loop
+put-requires c κs = search needs
+
+add-i : tie.Need-add-i Inv-loop μ-loop
+add-i c = search needs
+
+loop-less : tie.Need-loop-less Inv-loop μ-loop
+loop-less c = search needs
+
+loop-again : tie.Need-loop-again Inv-loop μ-loop
+loop-again c =
+    let a = c .before .before .before .before .before .before .before .before .before .before .before .before .before .before .before .before .before .before .before .before .before .args in
+    let k = c .before .before .before .before .before .before .before .before .before .before .before .before .before .loop in (
+      rest-answer (a .buf .now) (tables (a .base) (a .slots .now) (a .starts .now) (a .shares .now)) (a .entries .now) (k .i) (k .last) (k .answers) (c .before .before .before .before .before .before .before .before .before .before .before .before .loop-test .taken) (c .before .before .before .before .before .word .given .0 .0) _ _ (c .before .before .put .ensures) (rw (c .before .before .before .before .before .word .given .1) at (c .before .before .before .before .before .before .before .before .before .locate-one .ensures)) ∙ k .inv .0,
+      omega arith,
+      omega (arith, c .before .before .before .before .before .before .before .before .before .locate-one .kept),
+      omega (arith, c .before .before .put .kept),
+    )
+
+same-length-3 : tie.Need-same-length-3 Inv-loop μ-loop
+same-length-3 c = search needs
+
+same-length-4 : tie.Need-same-length-4 Inv-loop μ-loop
+same-length-4 c = search needs
+
+returns-2 : tie.Need-returns-2 Inv-loop μ-loop
+returns-2 c =
+    let a = c .before .before .before .before .before .before .before .before .before .args in
+    let k = c .before .loop in
+    rest-end (a .buf .now) (tables (a .base) (a .slots .now) (a .starts .now) (a .shares .now)) (a .entries .now) (k .i) (k .last) (k .answers) (c .loop-test .left) ∙ k .inv .0
+
+pub locate-list-spec : {M : Type 1} → statement M
+locate-list-spec =
+    tie.close
+    (tie.spec
+    Inv-loop
+    μ-loop
+    loop-holds
+    mul-locate-one
+    shared-slice-read-locate-one
+    locate-one-requires
+    enum-known-word
+    enum-told
+    same-length
+    same-length-2
+    returns
+    put-requires
+    add-i
+    loop-less
+    loop-again
+    same-length-3
+    same-length-4
+    returns-2)

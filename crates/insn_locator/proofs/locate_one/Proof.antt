@@ -1,0 +1,64 @@
+use Rattle.insn_locator.proofs.Tables.{entry-free, entry-missing, entry-unknown, entry-tried}
+use Rattle.insn_locator.specs.Answers.{tables, firstValue}
+use native.Mathlib.Omega.{arith}
+use mathlib.Core.Path.{ap, sym, _∙_}
+use borrow.Author.Needs.{needs}
+use Rattle.insn_locator.proofs.locate_one.Statement.{statement}
+use Rattle.insn_locator.proofs.locate_one.Tie as tie
+
+slot-at-requires : tie.Need-slot-at-requires
+slot-at-requires c κs = search needs
+
+returns : tie.Need-returns
+returns c =
+    let a = c .before .before .before .before .before .before .before .args in
+    entry-free (a .buf .now) (tables (a .base) (a .slots .now) (a .starts .now) (a .shares .now)) (a .last .now) (a .off) _ (c .before .slot-at .ensures) (c .if1 .taken)
+
+first-of-requires : tie.Need-first-of-requires
+first-of-requires c κs = search needs
+
+enum-known-first : tie.Need-enum-known-first
+enum-known-first c = search needs
+
+enum-told : tie.Need-enum-told
+enum-told c = search needs
+
+returns-2 : tie.Need-returns-2
+returns-2 c =
+    let a = c .before .before .before .before .before .before .before .before .before .before .args in
+    entry-missing (a .buf .now) (tables (a .base) (a .slots .now) (a .starts .now) (a .shares .now)) (a .last .now) (a .off) _ (c .before .before .before .before .slot-at .ensures) (omega arith) (ap firstValue (sym (c .enum-told .given .1)) ∙ c .before .before .first-of .ensures)
+
+cast-m : tie.Need-cast-m
+cast-m c = search needs
+
+returns-3 : tie.Need-returns-3
+returns-3 c =
+    let a = c .before .before .before .before .before .before .before .before .before .before .before .before .args in
+    entry-unknown (a .buf .now) (tables (a .base) (a .slots .now) (a .starts .now) (a .shares .now)) (a .last .now) (a .off) _ (c .before .before .before .before .before .before .slot-at .ensures) _ (omega arith) (ap firstValue (sym (c .before .before .first .given .1)) ∙ c .before .before .before .before .first-of .ensures) (omega arith)
+
+confirm-requires : tie.Need-confirm-requires
+confirm-requires c κs = search needs
+
+same-length : tie.Need-same-length
+same-length c = search needs
+
+returns-4 : tie.Need-returns-4
+returns-4 c =
+    let a = c .before .before .before .before .before .before .before .before .before .before .before .before .before .before .before .before .args in
+    entry-tried (a .buf .now) (tables (a .base) (a .slots .now) (a .starts .now) (a .shares .now)) (a .last .now) (a .off) _ (c .before .before .before .before .before .before .before .before .before .before .slot-at .ensures) _ _ (omega arith) (ap firstValue (sym (c .before .before .before .before .before .before .first .given .1)) ∙ c .before .before .before .before .before .before .before .before .first-of .ensures) (c .before .before .before .before .if2 .left) (c .before .before .confirm .ensures)
+
+pub locate-one-spec : {M : Type 1} → statement M
+locate-one-spec =
+    tie.close
+    (tie.spec
+    slot-at-requires
+    returns
+    first-of-requires
+    enum-known-first
+    enum-told
+    returns-2
+    cast-m
+    returns-3
+    confirm-requires
+    same-length
+    returns-4)

@@ -1,0 +1,3 @@
+pub mod Locate
+pub mod Listing
+pub mod Answers
