@@ -1,0 +1,197 @@
+-- The whole case of document 01, 80 bytes, meets the supposition, part by part: so the statement isn't empty. What the operations answer for
+-- it is computed, and is what the document prints.
+-- Assumes nothing.
+use Prim.Native.Nat.{ℕ, zero, suc, _+_, _≤_, _<_}
+use native.Mathlib.Omega.{arith}
+use mathlib.Core.Path.{_≡_, refl, sym, _∙_, ap}
+use mathlib.Core.Bool.{Bool, true, _&&_}
+use mathlib.Core.List.{List, [], _∷_, _++_, List·Memᴰ, List·Memᴰ·not-nil, List·Memᴰ·eq-of-singleton}
+use lib.Dec.{ltb, lit<, lit≤}
+use lib.ListN.{length, replicate}
+use borrow.Author.Tests.{ltb-true}
+use Rattle.words.specs.Padded.{padded}
+use Rattle.words.proofs.Shared.{and-left, and-right}
+use Rattle.refusal.specs.Outcomes.{success}
+use Rattle.tinydex.specs.declared.DexHeader.{DexHeader}
+use Rattle.dalvik.specs.Numbers.{byte, le16, le32, Bytes, Uleb128, Uleb128s}
+use Rattle.dalvik.specs.Numbers.Leb128.{last-byte}
+use Rattle.dalvik.specs.CodeItem.{Code}
+use Rattle.dalvik.specs.Formats.{formats, formatOf, lengthOf}
+use Rattle.dalvik.specs.ClassData.{EncodedMethods, ClassData, Defined, CodesOf}
+use Rattle.dalvik.specs.ClassData.EncodedMethods.{with-code}
+use Rattle.dalvik.specs.ClassData.Defined.{some-data}
+use Rattle.dalvik.specs.ClassData.CodesOf.{without-map}
+use Rattle.dalvik.specs.Instructions.{Kind, Instruction, Instructions, Payloads}
+use Rattle.dalvik.specs.Instructions.Kind.{strings}
+use Rattle.leb128.specs.Leb.{uleb, ulebFast, lenOf, ulebLen}
+use Rattle.class_data.specs.Codes.{skipped, methodsFrom, classDataAt, successive, defined, entryFrom, mapEntry, codesOf}
+use Rattle.class_data.specs.Stored.{triplesOf, startsOf}
+use Rattle.code_table.specs.Slots.{joined, joinedSlot, place, tableOf}
+use Rattle.code_table.specs.Build.{Build, buildOut}
+use Rattle.code_item_scan.specs.Scan.{kindOf, widthOf, indexAt, isTried, hitsIn, hitsOf, scanOut}
+use Rattle.insn_locator.specs.Locate.{step, landsIn, lands, slotAt, firstOf, locateFrom, locateAll, locateOut}
+use Rattle.insn_locator.specs.Listing.{chain, listed, listOut}
+use Rattle.opcodes.specs.Length.{unitsOf}
+use Rattle.words.specs.Padded.{stretch}
+use Rattle.demand.specs.Supposed.{Distinct, ArrayOf, CoincideOrApart, PublishedCode, Supposed}
+use Rattle.demand.specs.Supposed.CoincideOrApart.{coincide}
+use Rattle.demand.specs.Statement.{Lent, builtOf, scannedOf, locatedOf, listingOf, FindsAll}
+use Rattle.demand.proofs.Demand.{demand3}
+use Rattle.demand.proofs.Enough.{enough, enough-suffices}
+
+-- ---- a file's parts, told by their bytes
+abbrev pub allBytes : List ℕ → Bool
+allBytes [] = true
+allBytes (x ∷ xs) = ltb x 256 && allBytes xs
+
+pub all-bytes : (xs : List ℕ) → allBytes xs ≡ true → Bytes xs
+all-bytes [] e i = omega arith
+all-bytes (x ∷ xs) e zero = ltb-true x 256 (and-left (ltb x 256) (allBytes xs) e)
+all-bytes (x ∷ xs) e (suc i) = all-bytes xs (and-right (ltb x 256) (allBytes xs) e) i
+
+-- a number of one byte
+pub one-byte : (s : List ℕ) (i v : ℕ) → i < length s → byte s i ≡ v → v < 128 → Uleb128 s i v (i + 1)
+one-byte s i v h e l = rw (← e) (record { number = last-byte h (omega arith); fits = omega arith })
+
+-- a unit below 0x0100 opens no payload
+pub plain : (s : List ℕ) (p n : ℕ) → le16 s p < 256 → lengthOf (byte s p) ≡ n → 0 < n → Instruction s p n
+plain s p n h e l = record {
+  no-packed-switch = λ q. omega arith;
+  no-sparse-switch = λ q. omega arith;
+  no-fill-array-data = λ q. omega arith;
+  size = e;
+  some-size = l;
+}
+
+-- ---- the file and its record
+unfoldable pub file : List ℕ
+file =
+    replicate 24 0 ++ (0x20 ∷ replicate 9 0) ++ (0x01 ∷ 0 ∷ 0 ∷ 0x01 ∷ 0x30 ∷ replicate 21 0)
+    ++ (0x04 ∷ 0 ∷ 0 ∷ 0 ∷ 0x1a ∷ 0 ∷ 0x05 ∷ 0 ∷ 0x0e ∷ replicate 11 0)
+
+unfoldable pub header : DexHeader
+header = record {
+  strings = record { off = 0; size = 0 };
+  types = record { off = 0; size = 0 };
+  prototypes = record { off = 0; size = 0 };
+  fields = record { off = 0; size = 0 };
+  methods = record { off = 0; size = 1 };
+  classes = record { off = 0; size = 1 };
+  mapoff = 0;
+}
+
+unfoldable pub code : Code
+code = record { method = 0; off = 48; units = 4 }
+
+-- ---- the supposition
+file-bytes : Bytes file
+unfolding file
+file-bytes = all-bytes file refl
+
+class-data : ClassData file 32 (code ∷ []) 39
+unfolding file code le32 le16
+class-data = record {
+  static-fields-size = 0;
+  instance-fields-size = 0;
+  direct-methods-size = 1;
+  virtual-methods-size = 0;
+  a = 33;
+  b = 34;
+  c = 35;
+  d = 36;
+  f = 36;
+  g = 39;
+  size-statics = one-byte file 32 0 (lit< tt) refl (lit< tt);
+  size-instances = one-byte file 33 0 (lit< tt) refl (lit< tt);
+  size-directs = one-byte file 34 1 (lit< tt) refl (lit< tt);
+  size-virtuals = one-byte file 35 0 (lit< tt) refl (lit< tt);
+  fields = Uleb128s.no-more;
+  in-directs = code ∷ [];
+  in-virtuals = [];
+  direct =
+      with-code {d = 0} {o = 48} (one-byte file 36 0 (lit< tt) refl (lit< tt)) (lit< tt) (one-byte file 37 1 (lit< tt) refl (lit< tt))
+      (one-byte file 38 48 (lit< tt) refl (lit< tt)) (λ q. omega arith) EncodedMethods.no-more;
+  virtual = EncodedMethods.no-more;
+  all = refl;
+}
+
+found-here : CodesOf file 0 0 1 (code ∷ [])
+unfolding file code le32 le16
+found-here = without-map refl (some-data {i = 0} {cs = code ∷ []} {ds = []} (lit≤ tt) (λ q. omega arith) class-data Defined.no-more)
+
+-- const-string, return-void, nop
+array : ArrayOf file code
+unfolding file code le16 lengthOf formatOf formats
+array = record {
+  rest = 72;
+  one-or-more = lit< tt;
+  instructions =
+      Instructions.one-more {p = 64} (plain file 64 2 (lit< tt) refl (lit< tt)) (lit≤ tt)
+      (Instructions.one-more {p = 68} (plain file 68 1 (lit< tt) refl (lit< tt)) (lit≤ tt)
+      (Instructions.one-more {p = 70} (plain file 70 1 (lit< tt) refl (lit< tt)) (lit≤ tt) (Instructions.no-more refl)));
+  payloads = Payloads.no-more refl;
+}
+
+published : PublishedCode file 1 code
+unfolding code file
+published = record {
+  below = lit< tt;
+  small = lit< tt;
+  aligned = refl;
+  blocks-inside = λ b o. omega (arith, o .before-stop, o .holds);
+  array = array;
+}
+
+same : (c d : Code) → List·Memᴰ c (code ∷ []) → List·Memᴰ d (code ∷ []) → c ≡ d
+same c d m k = List·Memᴰ·eq-of-singleton m ∙ sym (List·Memᴰ·eq-of-singleton k)
+
+pub supposed : Supposed file 0 0 1 1 (code ∷ [])
+unfolding file Distinct
+supposed = record {
+  bytes = file-bytes;
+  small = lit≤ tt;
+  found = found-here;
+  once = (List·Memᴰ·not-nil, tt);
+  each = λ c m. rw (List·Memᴰ·eq-of-singleton m) published;
+  apart = λ c d m k. coincide (ap (λ (z : Code). z .off) (same c d m k)) (ap (λ (z : Code). z .units) (same c d m k));
+}
+
+-- so demand 3 holds of it, in buffers that suffice for any file of 80 bytes with one method id
+pub finds : FindsAll file (code ∷ []) strings (5 ∷ []) (enough (length file) 1) (builtOf file header (enough (length file) 1))
+unfolding header
+finds = demand3 file header (code ∷ []) supposed strings (5 ∷ []) (enough (length file) 1) (enough-suffices supposed strings (5 ∷ []))
+
+-- ---- the outcomes, computed, in four words of each
+four : Lent
+four = record {
+  build = record { starts = 4; triples = 4; slots = 4; shares = 4 };
+  slots = 4;
+  starts = 4;
+  shares = 4;
+  offs = 4;
+  marks = 4;
+  answers = 4;
+  further = 4;
+  list = 4;
+}
+
+built : Build
+built = record { number = 0; from = 64; to = 80; starts = 64 ∷ []; triples = 4 ∷ 4 ∷ 0 ∷ []; slots = 1 ∷ []; shares = [] }
+
+build-computed : builtOf file header four ≡ built
+unfolding file header four built buildOut codesOf mapEntry entryFrom defined successive classDataAt methodsFrom skipped ulebFast uleb ulebLen lenOf le16 le32 triplesOf startsOf tableOf place joined joinedSlot stretch
+build-computed = refl
+
+-- hits=1, off=64 idx=5
+scan-computed : scannedOf file strings (5 ∷ []) four built ≡ record { number = 0; hits = record { off = 64; mark = 5 } ∷ [] }
+unfolding file four built scanOut kindOf hitsOf hitsIn isTried widthOf indexAt le16 le32
+scan-computed = refl
+
+locate-computed : locatedOf file four built (record { number = 0; hits = record { off = 64; mark = 5 } ∷ [] }) ≡ success (1 ∷ [])
+unfolding file four built locateOut locateAll locateFrom slotAt firstOf lands landsIn step unitsOf padded
+locate-computed = refl
+
+-- mids=0
+list-computed : listingOf four built 1 ≡ success (0 ∷ [])
+unfolding four built listOut listed chain padded
+list-computed = refl
