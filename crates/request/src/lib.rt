@@ -1,0 +1,169 @@
+// The request of the program `refs`, whole: document 01, "Program". The header record's seven lines, the kind and the wanted indices.
+ghost use mathlib.Core.Path.{_≡_};
+ghost use Rattle.request.specs.Request.{headerLines, indicesAt, indexLine, stored, view, mostIndices, requestOf, Says};
+ghost use lib.ListN.{length};
+use refusal::Refusal;
+use request_lines::Number;
+use request_lines::Pair;
+use request_lines::Place;
+use tinydex::DexHeader;
+
+// The record, and the place behind its lines.
+enum Header {
+    At { header: DexHeader, next: usize },
+    Nothing,
+}
+
+// How many indices were read, and the place behind them.
+enum Indices {
+    Read { count: usize, next: usize },
+    Nothing,
+}
+
+pub enum Request {
+    Asked {
+        header: DexHeader,
+        kind: u32,
+        count: usize,
+    },
+    Refused(Refusal),
+}
+
+// The lines of the header record, from the text's start.
+fn header_lines(text: &[u8]) -> Header
+    ensures { λ r. ⌜ r ≡ headerLines (now (text .entry)) ⌝ }
+{
+    let Pair::At {
+        table: strings,
+        next: a,
+    } = request_lines::pair_line(text, 0, b"strings=")
+    else {
+        return Header::Nothing;
+    };
+    let Pair::At {
+        table: types,
+        next: b,
+    } = request_lines::pair_line(text, a, b"types=")
+    else {
+        return Header::Nothing;
+    };
+    let Pair::At {
+        table: prototypes,
+        next: c,
+    } = request_lines::pair_line(text, b, b"prototypes=")
+    else {
+        return Header::Nothing;
+    };
+    let Pair::At {
+        table: fields,
+        next: d,
+    } = request_lines::pair_line(text, c, b"fields=")
+    else {
+        return Header::Nothing;
+    };
+    let Pair::At {
+        table: methods,
+        next: e,
+    } = request_lines::pair_line(text, d, b"methods=")
+    else {
+        return Header::Nothing;
+    };
+    let Pair::At {
+        table: classes,
+        next: f,
+    } = request_lines::pair_line(text, e, b"classes=")
+    else {
+        return Header::Nothing;
+    };
+    let Number::Value {
+        value: mapoff,
+        next: g,
+    } = request_lines::number_line(text, f, b"mapoff=")
+    else {
+        return Header::Nothing;
+    };
+    Header::At {
+        header: DexHeader {
+            strings: strings,
+            types: types,
+            prototypes: prototypes,
+            fields: fields,
+            methods: methods,
+            classes: classes,
+            mapoff: mapoff,
+        },
+        next: g,
+    }
+}
+
+// The indices at a place, at most 16, with commas between them.
+fn read_indices(text: &[u8], at: usize, wanted: &mut [u32]) -> Indices
+    ensures { λ r. ⌜ view r (now (wanted .exit)) ≡ stored 0 (now (wanted .entry)) (indicesAt mostIndices (now (text .entry)) at) ⌝ }
+{
+    let mut i = at;
+    let mut n: usize = 0;
+    while n < 16 {
+        let Number::Value { value: v, next: p } = request_lines::read_number(text, i) else {
+            return Indices::Nothing;
+        };
+        words::put(wanted, n, v);
+        n += 1;
+        let Place::At(q) = request_lines::read_word(text, p, b",") else {
+            return Indices::Read { count: n, next: p };
+        };
+        i = q;
+    }
+    Indices::Nothing
+}
+
+// The request that a text is. Both the answer and the indices say so: on a refusal all lent words are zero.
+pub fn read_request(text: &[u8], wanted: &mut [u32]) -> Request
+    ensures { λ r. ⌜ Says (requestOf (now (text .entry)) (length (now (wanted .entry)))) r (now (wanted .entry)) (now (wanted .exit)) ⌝ }
+{
+    words::clear(wanted);
+    if wanted.len() < 16 {
+        return Request::Refused(Refusal::LentTooShort);
+    }
+    let Header::At { header, next: a } = header_lines(text) else {
+        return Request::Refused(Refusal::BadRequest);
+    };
+    let Number::Value {
+        value: kind,
+        next: b,
+    } = request_lines::kind_line(text, a)
+    else {
+        return Request::Refused(Refusal::BadRequest);
+    };
+    let Indices::Read { count, next: c } = index_line(text, b, wanted) else {
+        words::clear(wanted);
+        return Request::Refused(Refusal::BadRequest);
+    };
+    if c != text.len() {
+        words::clear(wanted);
+        return Request::Refused(Refusal::BadRequest);
+    }
+    Request::Asked {
+        header: header,
+        kind: kind,
+        count: count,
+    }
+}
+
+// The line of the indices.
+fn index_line(text: &[u8], at: usize, wanted: &mut [u32]) -> Indices
+    ensures { λ r. ⌜ view r (now (wanted .exit)) ≡ stored 0 (now (wanted .entry)) (indexLine (now (text .entry)) at) ⌝ }
+{
+    let Place::At(a) = request_lines::read_word(text, at, b"index=") else {
+        return Indices::Nothing;
+    };
+    let Indices::Read { count, next: b } = read_indices(text, a, wanted) else {
+        return Indices::Nothing;
+    };
+    let Place::At(c) = request_lines::read_line_end(text, b) else {
+        return Indices::Nothing;
+    };
+    Indices::Read {
+        count: count,
+        next: c,
+    }
+}
