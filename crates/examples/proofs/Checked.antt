@@ -2,19 +2,47 @@
 -- Assumes nothing.
 use mathlib.Core.Path.{refl}
 use Rattle.leb128.specs.Leb.{ulebFast, uleb, ulebLen, lenOf}
+use Rattle.string_data.specs.Text.{stringText, behindLength, textFrom, firstZero, zeroOf}
+use Rattle.dalvik.specs.Numbers.{le16, le32}
+use Rattle.groups.specs.Groups.{idsWhere, joined, tabulate}
+use Rattle.groups.specs.Built.{groupsOf}
+use Rattle.groups.specs.Stretch.{stretchOf}
+use Rattle.words.specs.Padded.{stretch}
+use Rattle.code_table.specs.Slots.{joined as joinedShare, joinedSlot, place, tableOf}
+use Rattle.insn_locator.specs.Listing.{chain, listed, listOut}
+use Rattle.string_search.specs.Keys.{owner}
 use Rattle.opcodes.specs.Length.{lengthRead, unitsOf}
+use Rattle.code_item_scan.specs.Scan.{scanOut, kindOf, hitsOf, hitsIn, isTried, widthOf, indexAt}
 use Rattle.examples.specs.Table.{Table}
 
 pub checked : Table
-unfolding ulebFast uleb ulebLen lenOf lengthRead unitsOf
+unfolding ulebFast uleb ulebLen lenOf lengthRead unitsOf stringText behindLength textFrom firstZero zeroOf le16 le32 idsWhere joined tabulate groupsOf stretchOf scanOut kindOf hitsOf hitsIn isTried widthOf indexAt stretch joinedSlot place tableOf chain listed listOut joinedShare owner
 checked = record {
   two-bytes = refl;
   five-bytes = refl;
   six-bytes = refl;
+  longest-length = refl;
+  length-overflow = refl;
+  type-offsets = refl;
+  type-ids = refl;
+  type-group-0 = refl;
+  type-group-1 = refl;
+  type-group-2 = refl;
+  type-group-3 = refl;
+  shared-code = refl;
+  larger-index = refl;
+  length-prefix = refl;
+  before-all = refl;
   return-void = refl;
   const-string = refl;
   const-string-jumbo = refl;
   invoke-polymorphic = refl;
   const-wide = refl;
   unused = refl;
+  string-cut = refl;
+  string = refl;
+  jumbo-cut = refl;
+  jumbo = refl;
+  odd-type = refl;
+  odd-string = refl;
 }
