@@ -60,6 +60,20 @@ fn print_group(key: &[u8], k: u32, ids: &[u8], group: &[u32]) {
     print_list(group);
 }
 
+// What a search has found, and the end of the line.
+fn print_answer(ids: &[u8], answer: Answer, out: &[u32]) {
+    match answer {
+        Answer::Refused(why) => {
+            print(b" ");
+            print_refusal(why);
+        }
+        Answer::Done(n) => {
+            print(ids);
+            print_list(first(out, n));
+        }
+    }
+}
+
 // ---- lists of words
 
 // The first n words, or all where there are fewer.
@@ -225,16 +239,7 @@ fn methods(file: &[u8], header: DexHeader) {
 fn print_found(key: &[u8], query: &[u8], answer: Answer, out: &[u32]) {
     print(key);
     print(query);
-    match answer {
-        Answer::Refused(why) => {
-            print(b" ");
-            print_refusal(why);
-        }
-        Answer::Done(n) => {
-            print(b" strings=");
-            print_list(first(out, n));
-        }
-    }
+    print_answer(b" strings=", answer, out);
 }
 
 fn search(file: &[u8], keys: &[u64], start: usize, end: usize, phrase: &[u8]) {
@@ -289,6 +294,166 @@ fn strings(file: &[u8], header: DexHeader) {
     string_searches(file, header, &mut keys);
     let mut given = [0u32; 4096];
     names(file, header.strings.size, &mut given);
+}
+
+// ---- types and methods by phrases
+
+fn search_types(
+    file: &[u8],
+    keys: &[u64],
+    start: usize,
+    end: usize,
+    query: &[u8],
+    offsets: &[u32],
+    ids: &[u32],
+) {
+    let mut strings_room = [0u32; 4096];
+    let mut out_room = [0u32; 4096];
+    let strings: &mut [u32] = &mut strings_room;
+    let out: &mut [u32] = &mut out_room;
+    let answer = type_search::locate(file, keys, start, end, query, offsets, ids, strings, out);
+    print(b"phrase=");
+    print(query);
+    print_answer(b" types=", answer, out);
+}
+
+// The second phrase is found, but in no type's string; the third is not found.
+fn type_searches(
+    file: &[u8],
+    keys: &[u64],
+    start: usize,
+    end: usize,
+    offsets: &[u32],
+    ids: &[u32],
+) {
+    print(b"type search\n");
+    search_types(file, keys, start, end, b"pump", offsets, ids);
+    search_types(file, keys, start, end, b"clear", offsets, ids);
+    search_types(file, keys, start, end, b"valve", offsets, ids);
+}
+
+fn search_methods(
+    file: &[u8],
+    header: DexHeader,
+    keys: &[u64],
+    start: usize,
+    end: usize,
+    class: &[u8],
+    name: &[u8],
+    offsets: &[u32],
+    ids: &[u32],
+) {
+    let mut strings_room = [0u32; 4096];
+    let mut types_room = [0u32; 4096];
+    let mut out_room = [0u32; 4096];
+    let strings: &mut [u32] = &mut strings_room;
+    let types: &mut [u32] = &mut types_room;
+    let out: &mut [u32] = &mut out_room;
+    let answer = method_search::locate(
+        file,
+        header,
+        keys,
+        start,
+        end,
+        class,
+        name,
+        offsets,
+        ids,
+        strings,
+        types,
+        out,
+    );
+    print(b"class=");
+    print(class);
+    print(b" name=");
+    print(name);
+    print_answer(b" methods=", answer, out);
+}
+
+// A class alone, a name alone, both, a class that is not found, and neither.
+fn method_searches(
+    file: &[u8],
+    header: DexHeader,
+    keys: &[u64],
+    start: usize,
+    end: usize,
+    offsets: &[u32],
+    ids: &[u32],
+) {
+    print(b"method search\n");
+    search_methods(file, header, keys, start, end, b"Totals", b"", offsets, ids);
+    search_methods(file, header, keys, start, end, b"", b"show", offsets, ids);
+    search_methods(
+        file,
+        header,
+        keys,
+        start,
+        end,
+        b"Totals",
+        b"show",
+        offsets,
+        ids,
+    );
+    search_methods(
+        file,
+        header,
+        keys,
+        start,
+        end,
+        b"valve",
+        b"show",
+        offsets,
+        ids,
+    );
+    search_methods(file, header, keys, start, end, b"", b"", offsets, ids);
+}
+
+fn both_searches(
+    file: &[u8],
+    header: DexHeader,
+    keys: &[u64],
+    start: usize,
+    end: usize,
+    offsets: &mut [u32],
+    ids: &mut [u32],
+) {
+    match type_locator::build_map(file, header, offsets, ids) {
+        Answer::Refused(why) => print_refusal(why),
+        Answer::Done(_) => {
+            type_searches(file, keys, start, end, offsets, ids);
+            method_searches(file, header, keys, start, end, offsets, ids);
+        }
+    }
+}
+
+fn mapped_searches(
+    file: &[u8],
+    header: DexHeader,
+    keys: &mut [u64],
+    offsets: &mut [u32],
+    ids: &mut [u32],
+) {
+    match string_locator::build_map(file, header, keys) {
+        StringMap::Refused(why) => print_refusal(why),
+        StringMap::Map { start, end, count } => {
+            both_searches(
+                file,
+                header,
+                first_keys(keys, count),
+                start,
+                end,
+                offsets,
+                ids,
+            )
+        }
+    }
+}
+
+fn searches(file: &[u8], header: DexHeader) {
+    let mut keys = [0u64; 4096];
+    let mut offsets = [0u32; 4096];
+    let mut ids = [0u32; 4096];
+    mapped_searches(file, header, &mut keys, &mut offsets, &mut ids);
 }
 
 // ---- code: the table, and the uses of every index of each kind
@@ -450,6 +615,7 @@ fn sections(file: &[u8]) {
     types(file, header);
     methods(file, header);
     strings(file, header);
+    searches(file, header);
     code(file, header);
 }
 
