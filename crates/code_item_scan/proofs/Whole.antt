@@ -8,11 +8,11 @@ use mathlib.Core.Logic.{_⊎_, ⊎-elim}
 use Prim.Native.Nat.{ℕ, _+_, _≤_, _<_}
 use native.Mathlib.Omega.{arith}
 use lib.Dec.{leb}
-use lib.ListN.{length, length-map, length-replicate, drop}
-use lib.Seq.{sets, sets-eq, length-sets}
+use lib.ListN.{length, length-map, length-replicate}
+use lib.Seq.{length-sets}
 use borrow.Author.Tests.{le-leb, lt-leb, leb-true, ltb-false}
 use Rattle.words.specs.Padded.{padded, zeros}
-use Rattle.words.proofs.Padded.{padded-front, padded-none}
+use Rattle.words.proofs.Padded.{padded-none, sets-zeros}
 use Rattle.words.proofs.Shared.{and-left, and-right}
 use Rattle.refusal.specs.Refusals.{refusalNumber, tooLarge, largestFile}
 use Rattle.refusal.specs.declared.Answer.{Answer}
@@ -91,13 +91,6 @@ module _ (n : ℕ) (o m : List ℕ) where
       let e : (leb n (length o) && leb n (length m)) ≡ false =
       ⊎-elim (λ a. rw (lt-leb n (length o) a)) (λ b. rw (lt-leb n (length m) b) (and-false (leb n (length o)))) h in
       record { answer = rw e; starts = rw e (z .starts); indices = rw e (z .indices) }
-
--- stores into zeros that hold them all
-sets-zeros : {l : List ℕ} (n : ℕ) (vs : List ℕ) → l ≡ zeros n → length vs ≤ n → sets l 0 vs ≡ padded n vs
-sets-zeros n vs e h =
-    let l : 0 + length vs ≤ length (zeros n) = simp length-replicate (omega arith) in
-    let z : 0 + length vs ≡ length vs = omega arith in
-    ap (λ (k : List ℕ). sets k 0 vs) e ∙ sets-eq vs (zeros n) 0 l ∙ ap (λ (k : ℕ). vs ++ drop k (zeros n)) z ∙ padded-front n (length vs) vs refl
 
 pub gives-refused : {o : S.Scan} {o₀ m₀ o₁ m₁ : List ℕ} (why : Refusal) → o ≡ S.noScan (refusalNumber why) → Cleared o₀ m₀ o₁ m₁ → Gives o (Refused why) o₀ m₀ o₁ m₁
 gives-refused {o₀ = o₀} {m₀ = m₀} why e z =

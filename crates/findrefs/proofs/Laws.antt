@@ -12,9 +12,9 @@ use borrow.Author.Tests.{eq-eqb, ne-eqb}
 use Rattle.words.specs.Padded.{zeros, padded}
 use Rattle.words.proofs.Padded.{padded-none}
 use Rattle.refusal.specs.Refusals.{refusalNumber, answerNumber, answerCount}
+use Rattle.refusal.proofs.Numbers.{some-number}
 use Rattle.refusal.specs.Outcomes.{Outcome}
 use Rattle.refusal.specs.declared.Refusal.{Refusal}
-use Rattle.refusal.specs.declared.Refusal.the-variants as f
 use Rattle.refusal.specs.declared.Answer.{Answer}
 use Rattle.refusal.specs.declared.Answer.the-variants as a
 use Rattle.tinydex.specs.declared.DexHeader.{DexHeader}
@@ -31,23 +31,6 @@ use Rattle.findrefs.specs.Find.{Search, searched, searchOut, Lengths, Fi
 use Rattle.findrefs.specs.Gives.{GivesFind, GivesSearch, LocatesHits, kept, keptCount, Cleared}
 use Rattle.findrefs.specs.declared.Found.{Found}
 use Rattle.findrefs.specs.declared.Found.the-variants as r
-
-pub some-number : (x : Refusal) → refusalNumber x ≡ 0 → ⊥
-some-number f.FileTooLarge e = omega arith
-some-number f.UnknownKind e = omega arith
-some-number f.TableOutside e = omega arith
-some-number f.LentTooShort e = omega arith
-some-number f.StringOutside e = omega arith
-some-number f.NumberOutside e = omega arith
-some-number f.MethodIndex e = omega arith
-some-number f.CodeOutside e = omega arith
-some-number f.BadQuery e = omega arith
-some-number f.LengthOverflow e = omega arith
-some-number f.NotAscii e = omega arith
-some-number f.RegionOutside e = omega arith
-some-number f.StringIndex e = omega arith
-some-number f.BadRequest e = omega arith
-some-number f.LentTable e = omega arith
 
 -- ---- locate of the first offsets
 module _ (o : Outcome) (n : ℕ) (os₀ ms₀ fs₀ as₀ fs as′ : List ℕ) where
@@ -103,10 +86,6 @@ scan-fits o k os₀ ms₀ os₁ ms₁ e G =
     let l : length os₁ ≡ length (offs (o .hits)) + length (zeros (length os₀ - length (offs (o .hits)))) =
     ap length (G .starts) ∙ length-append (offs (o .hits)) (zeros (length os₀ - length (offs (o .hits)))) in
     omega (arith, l, n, length-offs (o .hits))
-
--- a slice that was cleared later is as long as at first
-pub cleared : (a₁ a₀ us : List ℕ) → length a₁ ≡ length a₀ → us ≡ zeros (length a₁) → us ≡ zeros (length a₀)
-cleared a₁ a₀ us h e = rw h at e
 
 -- what the search gives where scan refused, its answer q
 module _ (s : List ℕ) (kind : ℕ) (wanted : List ℕ) (from to : ℕ) (slots starts shares os₀ ms₀ fs₀ as₀ : List ℕ) where

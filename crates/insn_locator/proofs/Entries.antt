@@ -1,25 +1,15 @@
 -- Laws of a run over the entries: what is stored so far and the answers of the entries left make up the whole, at every turn.
 -- Assumes nothing.
 use mathlib.Core.Path.{_≡_, refl, ap, sym, _∙_}
-use mathlib.Core.List.{List, _++_}
+use mathlib.Core.List.{List}
 use mathlib.Core.Option.{Option, none, some}
 use Prim.Native.Nat.{ℕ, suc, _+_, _-_, _≤_, _<_}
 use native.Mathlib.Numerals.{add-one}
 use native.Mathlib.Omega.{arith}
-use lib.ListN.{length, getD, set, drop, length-replicate, drop-of-length-le}
-use lib.Seq.{sets, sets-eq, drop-cons}
-use Rattle.words.specs.Padded.{zeros, padded}
-use Rattle.words.proofs.Padded.{padded-front}
+use lib.ListN.{length, getD, set, drop, drop-of-length-le}
+use lib.Seq.{drop-cons}
 use Rattle.insn_locator.specs.Locate.{Tables, Answered, slotAt, answered, consTo, andThen, locateFrom}
 use Rattle.insn_locator.specs.Answers.{stored}
-
--- ---- answers stored into zeros are padded
-
-pub sets-zeros : (n : ℕ) (vs : List ℕ) → length vs ≤ n → sets (zeros n) 0 vs ≡ padded n vs
-sets-zeros n vs h =
-    let l : 0 + length vs ≤ length (zeros n) = simp length-replicate (omega arith) in
-    let z : 0 + length vs ≡ length vs = omega arith in
-    sets-eq vs (zeros n) 0 l ∙ ap (λ (k : ℕ). vs ++ drop k (zeros n)) z ∙ padded-front n (length vs) vs refl
 
 -- ---- one entry of the list
 

@@ -10,11 +10,11 @@ use lib.ListN.{length, take}
 use lib.Seq.{sets}
 use borrow.Author.Tests.{le-leb, lt-leb}
 use Rattle.words.specs.Padded.{zeros, padded}
+use Rattle.words.proofs.Padded.{sets-zeros}
 use Rattle.refusal.specs.Refusals.{tooLarge}
 use Rattle.refusal.specs.Outcomes.{refused, success}
 use Rattle.insn_locator.specs.Locate.{Tables, Answered, slotAt, answered, consTo, andThen, locateFrom, locateAll, answersFrom, locateOut}
 use Rattle.insn_locator.specs.Answers.{stored}
-use Rattle.insn_locator.proofs.Entries.{sets-zeros}
 
 pub take-zeros : (n k : ℕ) → n ≤ k → take n (zeros k) ≡ zeros n
 take-zeros zero k h = refl
@@ -87,7 +87,7 @@ module _ (s : List ℕ) (T : Tables) (entries : List ℕ) (room further : ℕ) w
               list = xs;
               outcome = locate-run (some xs) e;
               count = k;
-              words = w ∙ ap (λ (l : List ℕ). sets l 0 xs) z ∙ sets-zeros room xs (omega arith);
+              words = w ∙ sets-zeros room xs z (omega arith);
             }
 
         pub locate-done : (out out′ : List ℕ) → out ≡ zeros room → some out′ ≡ stored out 0 (locateFrom s T last entries) → Ran out′

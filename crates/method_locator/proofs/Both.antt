@@ -15,10 +15,10 @@ use Rattle.words.proofs.Shared.{case, or-right}
 use Rattle.dalvik.specs.Ids.{methodIdSize, method-class-idx, method-name-idx}
 use Rattle.tinydex.specs.declared.DexHeader.{DexHeader}
 use Rattle.refusal.specs.declared.Refusal.{Refusal}
-use Rattle.refusal.specs.declared.Refusal.the-variants.{FileTooLarge, UnknownKind, TableOutside, LentTooShort, StringOutside, NumberOutside, MethodIndex, CodeOutside, BadQuery, LengthOverflow, NotAscii, RegionOutside, StringIndex, BadRequest, LentTable}
 use Rattle.refusal.specs.declared.Answer.{Answer}
 use Rattle.refusal.specs.declared.Answer.the-variants as answer
 use Rattle.refusal.specs.Refusals.{tooLarge, refusalNumber, answerNumber, answerCount}
+use Rattle.refusal.proofs.Numbers.{some-number}
 use Rattle.groups.specs.Groups.{idsWith}
 use Rattle.groups.specs.Stretch.{stretchOf}
 use Rattle.groups.specs.Built as one
@@ -27,24 +27,6 @@ use Rattle.groups.proofs.Found.{Sound, sound, sound-groups, sound-offs, sound-i
 use Rattle.method_locator.specs.declared.Built.{Built}
 use Rattle.method_locator.specs.declared.Built.the-variants.{Done, Refused}
 use Rattle.method_locator.specs.Built.{Outcome, outcome, refused, clzGroups, nameGroups, Gives, builtNumber}
-
--- no refusal has the number of success
-some-number : (r : Refusal) → refusalNumber r ≡ 0 → ⊥
-some-number FileTooLarge e = omega arith
-some-number UnknownKind e = omega arith
-some-number TableOutside e = omega arith
-some-number LentTooShort e = omega arith
-some-number StringOutside e = omega arith
-some-number NumberOutside e = omega arith
-some-number MethodIndex e = omega arith
-some-number CodeOutside e = omega arith
-some-number BadQuery e = omega arith
-some-number LengthOverflow e = omega arith
-some-number NotAscii e = omega arith
-some-number RegionOutside e = omega arith
-some-number StringIndex e = omega arith
-some-number BadRequest e = omega arith
-some-number LentTable e = omega arith
 
 module _ (s : List ℕ) (h : DexHeader) (co cm fo fm : ℕ) where
   abbrev byClz : one.Outcome

@@ -22,7 +22,8 @@ use Rattle.tinydex.specs.declared.Table.{Table}
 use Rattle.groups.specs.Built.{passes}
 use Rattle.refusal.specs.declared.Answer.{Answer}
 use Rattle.rising.specs.Found.{Found}
-use Rattle.rising.specs.Rising.{Rising, Contains}
+use Rattle.words.specs.Rising.{Rising}
+use Rattle.rising.specs.Rising.{Contains}
 use Rattle.rising.proofs.Sets.{is-in, not-in}
 use Rattle.rising.proofs.Found.{numbered}
 use Rattle.string_search.specs.Search.{Decides, searchFault}

@@ -11,7 +11,8 @@ use Rattle.dalvik.specs.Ids.{item, methodIdSize, method-class-idx, method-name-
 use Rattle.refusal.specs.declared.Answer.{Answer}
 use Rattle.tinydex.specs.declared.Table.{Table}
 use Rattle.groups.specs.Built.{passes}
-use Rattle.rising.specs.Rising.{In, Rising, SetOf, Inserts}
+use Rattle.words.specs.Rising.{Rising}
+use Rattle.rising.specs.Rising.{In, SetOf, Inserts}
 use Rattle.rising.specs.Found.{Found}
 use Rattle.rising.specs.declared.Insertion.{Insertion}
 use Rattle.rising.specs.declared.Insertion.the-variants.{Held}

@@ -5,11 +5,11 @@ use native.Mathlib.Omega.{arith}
 use mathlib.Core.Path.{_≡_, refl, sym, ap, _∙_}
 use mathlib.Core.List.{List, [], _∷_, _++_}
 use lib.ListN.{length, replicate, length-replicate}
-use lib.Seq.{sets, sets-eq}
+use lib.Seq.{sets}
 use lib.Dec.{leb, eqb}
 use borrow.Author.Tests.{le-leb, lt-leb, eq-eqb, ne-eqb}
 use Rattle.words.specs.Padded.{zeros, padded}
-use Rattle.words.proofs.Padded.{padded-none, padded-front}
+use Rattle.words.proofs.Padded.{padded-none, sets-zeros}
 use Rattle.refusal.specs.declared.Refusal.{Refusal}
 use Rattle.refusal.specs.declared.Refusal.the-variants.{LentTooShort, BadRequest}
 use Rattle.tinydex.specs.declared.DexHeader.{DexHeader}
@@ -68,17 +68,6 @@ few-line s i = few-word (λ a. ended s (indicesAt 16 s a)) (wordAt index= s i) (
 few-read : (s : List ℕ) (i q : ℕ) (vs : List ℕ) → indexLine s i ≡ listed vs q → length vs ≤ 16
 few-read s i q vs e = rw e at (few-line s i)
 
--- stored into zeros from the start
-filled : (k : ℕ) (vs : List ℕ) → length vs ≤ k → sets (zeros k) 0 vs ≡ padded k vs
-filled k vs h =
-    let b : 0 + length vs ≤ length (zeros k) = rw length-replicate (omega arith) in
-    let z : 0 + length vs ≡ length vs = omega arith in
-    sets-eq vs (zeros k) 0 b ∙ (rw z (padded-front k (length vs) vs refl))
-
--- a slice that was cleared once more is as long as at first
-pub cleared : (a b us : List ℕ) → length a ≡ length b → us ≡ zeros (length a) → us ≡ zeros (length b)
-cleared a b us h e = rw h at e
-
 module _ (s : List ℕ) (before after : List ℕ) where
   refusal : (y : Refusal) → requestOf s (length before) ≡ refusedBy y → after ≡ zeros (length before)
       → Says (requestOf s (length before)) (r.Refused y) before after
@@ -120,5 +109,5 @@ module _ (s : List ℕ) (before after : List ℕ) where
             record {
               request = ap (r.Asked d k) (t .counted) ∙ sym (ap (λ (v : Outcome). v .request) o);
               wanted = t .words ∙ (ap (λ (l : List ℕ). sets l 0 (t .list)) w
-                  ∙ (filled (length before) (t .list) (omega (arith, few-read s b c (t .list) (t .is))) ∙ sym (ap (λ (v : Outcome). padded (length before) (v .wanted)) o)));
+                  ∙ (sets-zeros (length before) (t .list) refl (omega (arith, few-read s b c (t .list) (t .is))) ∙ sym (ap (λ (v : Outcome). padded (length before) (v .wanted)) o)));
             }

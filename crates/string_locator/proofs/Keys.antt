@@ -8,7 +8,8 @@ use mathlib.Core.Path.{_≡_, refl, sym, ap, _∙_}
 use mathlib.Core.Logic.{_⊎_, inl, inr, ⊎-elim}
 use mathlib.Core.List.{List, [], _∷_}
 use Rattle.dalvik.specs.Ids.{string-data-off}
-use Rattle.sort_keys.specs.Sorted.{sorted, count, once, Rising}
+use Rattle.words.specs.Rising.{Rising}
+use Rattle.sort_keys.specs.Sorted.{sorted, count, once}
 use Rattle.sort_keys.proofs.Counts.{same?, below?, once-same, once-other, count-append}
 use Rattle.sort_keys.proofs.Sorted.{sorted-same, sorted-rising}
 use Rattle.string_locator.specs.Map.{keyOf, keysOf, least, greatest}

@@ -14,7 +14,8 @@ use native.Mathlib.Omega.{arith}
 use native.Mathlib.Numerals.{add-one}
 use borrow.Author.Tests.{lt-ltb, le-ltb, le-leb, lt-leb, ltb-true, leb-true}
 use Rattle.words.proofs.Shared.{and-left, and-right}
-use Rattle.rising.specs.Rising.{Rising, Place}
+use Rattle.words.specs.Rising.{Rising}
+use Rattle.rising.specs.Rising.{Place}
 use Rattle.rising.proofs.Sets.{all-right}
 use Rattle.string_search.specs.declared.Owner.{Owner}
 use Rattle.string_search.specs.declared.Owner.the-variants.{Entry, Absent}

@@ -8,7 +8,8 @@ use lib.ListN.{length}
 use lib.Dec.{ltb}
 use Rattle.words.specs.Padded.{zeros}
 use Rattle.refusal.specs.Refusals.{refusalNumber, tooLarge, largestFile}
-use Rattle.rising.specs.Rising.{Rising, Inserts}
+use Rattle.words.specs.Rising.{Rising}
+use Rattle.rising.specs.Rising.{Inserts}
 use Rattle.rising.specs.declared.Insertion.{Insertion}
 use Rattle.rising.specs.declared.Insertion.the-variants.{Held}
 use Rattle.string_search.specs.declared.Owner.{Owner}

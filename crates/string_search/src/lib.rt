@@ -7,7 +7,7 @@ ghost use mathlib.Core.Path.{_≡_};
 ghost use Prim.Native.Nat.{_+_, _≤_, _<_};
 ghost use lib.ListN.{length};
 ghost use Rattle.words.specs.Padded.{zeros};
-ghost use Rattle.rising.specs.Rising.{Rising};
+ghost use Rattle.words.specs.Rising.{Rising};
 ghost use Rattle.rising.specs.Found.{Found, Matched};
 ghost use Rattle.string_search.specs.Finds.{Stands, NextFind};
 ghost use Rattle.string_search.specs.Keys.{owner, goodKeys};

@@ -14,7 +14,8 @@ use borrow.Author.Tests.{lt-ltb, le-ltb}
 use Rattle.refusal.specs.declared.Refusal.{Refusal}
 use Rattle.refusal.specs.Refusals.{refusalNumber}
 use Rattle.groups.specs.Stretch.{stretchOf}
-use Rattle.rising.specs.Rising.{In, Rising, SetOf}
+use Rattle.words.specs.Rising.{Rising}
+use Rattle.rising.specs.Rising.{In, SetOf}
 use Rattle.rising.specs.Found.{Matched}
 use Rattle.rising.specs.declared.Insertion.{Insertion}
 use Rattle.rising.specs.declared.Insertion.the-variants.{Held, Full}

@@ -10,7 +10,8 @@ use lib.Dec.{eqb, ltb}
 use Rattle.words.specs.Padded.{padded, zeros}
 use Rattle.refusal.specs.declared.Answer.{Answer}
 use Rattle.groups.specs.Stretch.{stretchOf}
-use Rattle.rising.specs.Rising.{In, Rising, SetOf}
+use Rattle.words.specs.Rising.{Rising}
+use Rattle.rising.specs.Rising.{In, SetOf}
 use Rattle.rising.specs.Found.{Found}
 use Rattle.string_search.specs.Search.{Owns, searchFault}
 

@@ -1,5 +1,6 @@
 -- Laws of lent words. Each holds since zeros behind a list neither change what is read nor are changed by what is written before them.
---     padded     length-padded, padded-none, padded-full, padded-at, padded-set, padded-push, padded-part, padded-zeros, padded-front
+--     padded     length-padded, padded-none, padded-full, padded-at, padded-set, padded-push, padded-part, padded-zeros, padded-front, sets-zeros
+--     zeros      cleared-again
 --     part       length-part
 --     stretch    length-stretch, stretch-padded, lent-fill
 -- Assumes nothing.
@@ -8,7 +9,7 @@ use mathlib.Core.List.{List, [], _∷_, _++_, append-assoc, append-nil}
 use Prim.Native.Nat.{ℕ, zero, suc, _+_, _-_, _≤_, _<_}
 use native.Mathlib.Omega.{arith}
 use lib.ListN.{length, replicate, take, drop, getD, set, length-append, length-replicate, replicate-append-replicate, length-take, length-drop, length-set}
-use lib.Seq.{take-append-le, drop-append-le, set-append-left, set-at}
+use lib.Seq.{sets, sets-eq, take-append-le, drop-append-le, set-append-left, set-at}
 use Rattle.words.specs.Padded.{zeros, padded, part, stretch}
 
 pub length-padded : (n : ℕ) (xs : List ℕ) → length xs ≤ n → length (padded n xs) ≡ n
@@ -112,3 +113,14 @@ drop-zeros (suc k) (suc n) =
 pub padded-front : (n k : ℕ) (l : List ℕ) → length l ≡ k → l ++ drop k (zeros n) ≡ padded n l
 unfolding padded
 padded-front n k l e = rw (drop-zeros k n, ← e)
+
+-- words stored into zeros that hold them all
+pub sets-zeros : {l : List ℕ} (n : ℕ) (vs : List ℕ) → l ≡ zeros n → length vs ≤ n → sets l 0 vs ≡ padded n vs
+sets-zeros n vs e h =
+    let l : 0 + length vs ≤ length (zeros n) = simp length-replicate (omega arith) in
+    let z : 0 + length vs ≡ length vs = omega arith in
+    ap (λ (k : List ℕ). sets k 0 vs) e ∙ sets-eq vs (zeros n) 0 l ∙ ap (λ (k : ℕ). vs ++ drop k (zeros n)) z ∙ padded-front n (length vs) vs refl
+
+-- a slice that is cleared once more is as long as at first
+pub cleared-again : (a₁ a₀ us : List ℕ) → length a₁ ≡ length a₀ → us ≡ zeros (length a₁) → us ≡ zeros (length a₀)
+cleared-again a₁ a₀ us h e = rw h at e

@@ -1,7 +1,8 @@
 use native.Mathlib.Omega.{arith}
 use Rattle.words.proofs.Shared.{met}
 use Rattle.request.proofs.Laws.{viewed}
-use Rattle.request.proofs.Whole.{cleared, says-short, says-no-header, says-no-kind, says-no-index, says-more, says-asked}
+use Rattle.words.proofs.Padded.{cleared-again}
+use Rattle.request.proofs.Whole.{says-short, says-no-header, says-no-kind, says-no-index, says-more, says-asked}
 use borrow.Author.Needs.{needs}
 use Rattle.request.proofs.read_request.Statement.{statement}
 use Rattle.request.proofs.read_request.Tie as tie
@@ -61,7 +62,7 @@ same-length-4 : tie.Need-same-length-4
 same-length-4 c = search needs
 
 returns-4 : tie.Need-returns-4
-returns-4 c = says-no-index _ _ _ (omega arith) _ _ (met (c .before .before .before .before .before .before .before .before .before .before .before .before .before .before .before .header .given .1) (c .before .before .before .before .before .before .before .before .before .before .before .before .before .before .before .before .before .header-lines .ensures)) _ _ (met (c .before .before .before .before .before .before .before .before .before .before .before .kind .given .1) (c .before .before .before .before .before .before .before .before .before .before .before .before .before .kind-line .ensures)) _ _ (viewed _ (c .before .before .before .before .enum-told3 .given .1) (c .before .before .before .before .before .before .before .before .index-line .ensures)) (cleared (c .before .before .before .before .before .before .before .before .index-line .last .1 .1 .0) (c .before .before .before .before .before .before .before .before .before .before .before .before .before .before .before .before .before .before .before .before .before .before .before .before .before .args .wanted .now) _ (omega arith) (c .before .before .clear2 .ensures))
+returns-4 c = says-no-index _ _ _ (omega arith) _ _ (met (c .before .before .before .before .before .before .before .before .before .before .before .before .before .before .before .header .given .1) (c .before .before .before .before .before .before .before .before .before .before .before .before .before .before .before .before .before .header-lines .ensures)) _ _ (met (c .before .before .before .before .before .before .before .before .before .before .before .kind .given .1) (c .before .before .before .before .before .before .before .before .before .before .before .before .before .kind-line .ensures)) _ _ (viewed _ (c .before .before .before .before .enum-told3 .given .1) (c .before .before .before .before .before .before .before .before .index-line .ensures)) (cleared-again (c .before .before .before .before .before .before .before .before .index-line .last .1 .1 .0) (c .before .before .before .before .before .before .before .before .before .before .before .before .before .before .before .before .before .before .before .before .before .before .before .before .before .args .wanted .now) _ (omega arith) (c .before .before .clear2 .ensures))
 
 clear-requires-3 : tie.Need-clear-requires-3
 clear-requires-3 c κs = search needs
@@ -70,7 +71,7 @@ same-length-5 : tie.Need-same-length-5
 same-length-5 c = search needs
 
 returns-5 : tie.Need-returns-5
-returns-5 c = says-more _ _ _ (omega arith) _ _ (met (c .before .before .before .before .before .before .before .before .before .before .before .before .before .before .before .before .before .header .given .1) (c .before .before .before .before .before .before .before .before .before .before .before .before .before .before .before .before .before .before .before .header-lines .ensures)) _ _ (met (c .before .before .before .before .before .before .before .before .before .before .before .before .before .kind .given .1) (c .before .before .before .before .before .before .before .before .before .before .before .before .before .before .before .kind-line .ensures)) _ _ _ _ (viewed _ (c .before .before .before .before .before .before .count .given .1) (c .before .before .before .before .before .before .before .before .before .before .index-line .ensures)) (c .before .before .before .before .if2 .taken) (cleared (c .before .before .before .before .before .before .before .before .before .before .index-line .last .1 .1 .0) (c .before .before .before .before .before .before .before .before .before .before .before .before .before .before .before .before .before .before .before .before .before .before .before .before .before .before .before .args .wanted .now) _ (omega arith) (c .before .before .clear3 .ensures))
+returns-5 c = says-more _ _ _ (omega arith) _ _ (met (c .before .before .before .before .before .before .before .before .before .before .before .before .before .before .before .before .before .header .given .1) (c .before .before .before .before .before .before .before .before .before .before .before .before .before .before .before .before .before .before .before .header-lines .ensures)) _ _ (met (c .before .before .before .before .before .before .before .before .before .before .before .before .before .kind .given .1) (c .before .before .before .before .before .before .before .before .before .before .before .before .before .before .before .kind-line .ensures)) _ _ _ _ (viewed _ (c .before .before .before .before .before .before .count .given .1) (c .before .before .before .before .before .before .before .before .before .before .index-line .ensures)) (c .before .before .before .before .if2 .taken) (cleared-again (c .before .before .before .before .before .before .before .before .before .before .index-line .last .1 .1 .0) (c .before .before .before .before .before .before .before .before .before .before .before .before .before .before .before .before .before .before .before .before .before .before .before .before .before .before .before .args .wanted .now) _ (omega arith) (c .before .before .clear3 .ensures))
 
 same-length-6 : tie.Need-same-length-6
 same-length-6 c = search needs
