@@ -1,0 +1,80 @@
+//! Writes the replay list: cases and what must be printed for them, by the Rust where it answers, else by document 01. Ours isn't called.
+//! Usage: replay FOLDER SAMPLE; writes FOLDER/data/cases and FOLDER/stdout.
+
+use sides::case::*;
+use sides::inputs::Inputs;
+use sides::{expected, silence, Expected};
+use std::collections::HashSet;
+use std::fs;
+use std::path::Path;
+
+const SEED: u64 = 20_261_115;
+
+/// Of an operation's answers on the domain, and of each refusal, so many at most; answers only up to so many bytes.
+const DOMAIN: usize = 240;
+const EACH_REFUSAL: usize = 12;
+const BYTES: usize = 68_000;
+
+/// What the program is lent for.
+fn fits(case: &Case) -> bool {
+    case.file.len() <= 4096
+        && case.query.len() <= 512
+        && case.second.len() <= 512
+        && case.keys.len() <= 512
+        && case.lists.iter().all(|l| l.len() <= 512)
+        && case.lent.iter().all(|&n| n <= 1024)
+        && case.high == 0
+}
+
+fn main() {
+    let args: Vec<String> = std::env::args().collect();
+    let [_, folder, sample] = &args[..] else { panic!("usage: replay FOLDER SAMPLE") };
+    silence();
+    let inputs = Inputs::new(SEED, Path::new(sample), Path::new("no larger files"));
+    let (mut cases, mut lines, mut count) = (Vec::new(), String::new(), 0u32);
+    for op in 1..=13 {
+        let (mut domain, mut answered, mut refusals) = (0, 0, [0; 16]);
+        let mut seen: HashSet<String> = HashSet::new();
+        let mut bytes = 0;
+        for index in 0..200_000u64 {
+            // Random cases and, one in ten, counted ones; small files mostly.
+            let case = inputs.case(op, if index % 10 == 0 { 2 * index } else { 2 * index + 1 });
+            if !fits(&case) || case.file.len() > 260 && index % 24 != 1 || case.file.len() > 1000 && index % 96 != 1 {
+                continue;
+            }
+            let (outcome, counter, most) = match expected(&case) {
+                Expected::Domain(o) if o.refusal == 0 => (o, &mut domain, DOMAIN),
+                Expected::Off(o) if o.refusal == 0 => (o, &mut answered, EACH_REFUSAL),
+                Expected::Domain(o) | Expected::Off(o) => {
+                    let n = o.refusal as usize;
+                    (o, &mut refusals[n], EACH_REFUSAL)
+                }
+                Expected::Dispute { .. } => panic!("the Rust differs from document 01: see run --op {}", OPS[op as usize - 1]),
+            };
+            if *counter >= most || bytes > BYTES && outcome.refusal == 0 {
+                continue;
+            }
+            // The answers are to differ, but for one in seven.
+            let line = outcome.line(op);
+            if outcome.refusal == 0 && !seen.insert(line.clone()) && index % 7 != 0 {
+                continue;
+            }
+            *counter += 1;
+            count += 1;
+            let before = cases.len();
+            case.write(&mut cases);
+            bytes += cases.len() - before;
+            lines += &line;
+            lines.push('\n');
+        }
+        let by: Vec<String> = (0..16).filter(|&n| refusals[n] > 0).map(|n| format!("{n}: {}", refusals[n])).collect();
+        println!("{:14} {domain} answers, {answered} by document 01 alone, refusals {}; {bytes} bytes", OPS[op as usize - 1], by.join(", "));
+    }
+    let folder = Path::new(folder);
+    fs::create_dir_all(folder.join("data")).unwrap();
+    let mut file = count.to_le_bytes().to_vec();
+    file.extend(&cases);
+    fs::write(folder.join("data/cases"), &file).unwrap();
+    fs::write(folder.join("stdout"), &lines).unwrap();
+    println!("{count} cases, {} bytes; {} bytes of lines", file.len(), lines.len());
+}

@@ -1,0 +1,840 @@
+//! The cases: every short one over a few bytes where that can be counted through, then random ones around the boundaries. A case is
+//! given by seed, operation and number, whichever thread makes it.
+
+use crate::case::*;
+use crate::document;
+use crate::synth::*;
+use std::path::Path;
+
+/// splitmix64
+pub struct Rng(u64);
+
+impl Rng {
+    pub fn new(seed: u64, op: u32, index: u64) -> Self {
+        let mut r = Rng(seed ^ (op as u64) << 56 ^ index.wrapping_mul(0x2545_f491_4f6c_dd1d));
+        r.next();
+        r
+    }
+    pub fn next(&mut self) -> u64 {
+        self.0 = self.0.wrapping_add(0x9e37_79b9_7f4a_7c15);
+        let mut z = self.0;
+        z = (z ^ z >> 30).wrapping_mul(0xbf58_476d_1ce4_e5b9);
+        z = (z ^ z >> 27).wrapping_mul(0x94d0_49bb_1331_11eb);
+        z ^ z >> 31
+    }
+    pub fn below(&mut self, n: usize) -> usize {
+        (self.next() % n.max(1) as u64) as usize
+    }
+    /// One time in n.
+    pub fn one_in(&mut self, n: usize) -> bool {
+        self.below(n) == 0
+    }
+    pub fn of<T: Copy>(&mut self, list: &[T]) -> T {
+        list[self.below(list.len())]
+    }
+    /// Mostly n itself, else a number beside it or far from it.
+    pub fn near(&mut self, n: u32) -> u32 {
+        match self.below(16) {
+            0 => n.wrapping_sub(1),
+            1 => n.wrapping_add(1),
+            2 => self.below(n as usize + 8) as u32,
+            3 if self.one_in(4) => self.of(&[0, 1, 0x7fff_ffff, 0x8000_0000, u32::MAX - 1, u32::MAX]),
+            _ => n,
+        }
+    }
+    pub fn bytes(&mut self, n: usize, alphabet: &[u8]) -> Vec<u8> {
+        (0..n).map(|_| if alphabet.is_empty() { self.next() as u8 } else { self.of(alphabet) }).collect()
+    }
+    pub fn words(&mut self, n: usize, below: usize) -> Vec<u32> {
+        (0..n).map(|_| self.below(below) as u32).collect()
+    }
+}
+
+/// A number read as digits of varying bases, for counting through small inputs.
+struct Digits(u64);
+
+impl Digits {
+    fn take(&mut self, n: usize) -> usize {
+        let d = self.0 % n as u64;
+        self.0 /= n as u64;
+        d as usize
+    }
+    /// Every list of at most `max` elements over an alphabet.
+    fn list<T: Copy>(&mut self, alphabet: &[T], max: u32) -> Vec<T> {
+        let n = alphabet.len();
+        let total: usize = (0..=max).map(|i| n.pow(i)).sum();
+        let mut rank = self.take(total);
+        let mut len = 0;
+        while rank >= n.pow(len) {
+            rank -= n.pow(len);
+            len += 1;
+        }
+        (0..len).map(|i| alphabet[rank / n.pow(i) % n]).collect()
+    }
+    fn done<T>(self, value: T) -> Option<T> {
+        (self.0 == 0).then_some(value)
+    }
+}
+
+/// The files that random cases begin with.
+pub struct Inputs {
+    small: Vec<Dex>,
+    large: Vec<Dex>,
+    pub seed: u64,
+}
+
+impl Inputs {
+    /// `sample` is the repository's own file, `folder` one of larger files, which may be absent.
+    pub fn new(seed: u64, sample: &Path, folder: &Path) -> Self {
+        let read = |p: &Path| std::fs::read(p).ok().map(Dex::of_file);
+        let small: Vec<Dex> = read(sample).into_iter().collect();
+        let large = ["commons-cli.dex", "commons-cli-jumbo.dex"].iter().filter_map(|n| read(&folder.join(n))).collect();
+        Inputs { small, large, seed }
+    }
+
+    pub fn case(&self, op: u32, index: u64) -> Case {
+        let mut rng = Rng::new(self.seed, op, index);
+        if index % 200_000 == 123_456 {
+            if let Some(c) = largest(op, &mut rng) {
+                return c;
+            }
+        }
+        if let Some(case) = (index % 2 == 0).then(|| counted(op, index / 2)).flatten() {
+            return case;
+        }
+        self.random(op, &mut rng)
+    }
+
+    /// A file with its record: made up, the sample, or (rarely) a larger one; often with something changed.
+    fn dex(&self, rng: &mut Rng) -> Dex {
+        let mut d = if rng.one_in(400) && !self.large.is_empty() {
+            self.large[rng.below(self.large.len())].clone()
+        } else if rng.one_in(8) && !self.small.is_empty() {
+            self.small[rng.below(self.small.len())].clone()
+        } else {
+            made_up(rng)
+        };
+        if rng.one_in(2) {
+            d.mutate(rng);
+        }
+        d
+    }
+
+    pub fn random(&self, op: u32, rng: &mut Rng) -> Case {
+        let mut case = match op {
+            TYPE_GROUPS | METHOD_GROUPS => self.groups(op, rng),
+            GROUP => group(rng),
+            STRING_MAP if rng.one_in(4) => many_strings(rng),
+            STRING_MAP => self.with_dex(op, rng),
+            STRING_BYTES => self.string_bytes(rng),
+            STRING_SEARCH | TYPE_SEARCH | METHOD_SEARCH => self.search(op, rng),
+            NAME_FILTER => self.name_filter(rng),
+            CODE_TABLE => self.with_dex(op, rng),
+            SCAN => self.scan(rng),
+            LOCATE => self.locate(rng),
+            LIST_SLOT => self.list_slot(rng),
+            FIND => self.find(rng),
+            _ => unreachable!(),
+        };
+        lend(&mut case, rng);
+        case
+    }
+
+    fn with_dex(&self, op: u32, rng: &mut Rng) -> Case {
+        self.dex(rng).case(op)
+    }
+
+    fn groups(&self, op: u32, rng: &mut Rng) -> Case {
+        if rng.one_in(2) {
+            return self.with_dex(op, rng);
+        }
+        // A table alone, up to the end of the file or a byte less or more.
+        let mut case = Case::new(op);
+        let (stride, table) = if op == TYPE_GROUPS { (4, 2) } else { (8, 8) };
+        let many = if rng.one_in(8) { 60 } else { 6 };
+        let (off, n) = (rng.below(5), rng.below(many + 1));
+        let pools = [rng.below(many) as u32, rng.below(many) as u32];
+        case.file = rng.bytes(off, &[]);
+        for _ in 0..n {
+            if op == METHOD_GROUPS {
+                let class = if rng.one_in(16) { rng.near(pools[1]) } else { rng.below(pools[1] as usize) as u32 } as u16;
+                case.file.extend(class.to_le_bytes());
+                case.file.extend((rng.next() as u16).to_le_bytes());
+            }
+            let key = match rng.below(16) {
+                0 => rng.near(pools[0]),
+                1 => pools[0] + 1 + rng.below(3) as u32,
+                _ => rng.below(pools[0] as usize) as u32,
+            };
+            case.file.extend(key.to_le_bytes());
+        }
+        let spare = rng.of(&[0, 0, 0, 1, 2]);
+        case.file.extend(rng.bytes(spare, &[]));
+        if rng.one_in(4) {
+            case.file.pop();
+        }
+        case.numbers[table] = off as u32;
+        case.numbers[table + 1] = rng.near(n as u32);
+        if (case.numbers[table] as usize + stride * case.numbers[table + 1] as usize) > case.file.len() && rng.one_in(2) {
+            case.numbers[table + 1] = n as u32;
+        }
+        case.numbers[1] = pools[0];
+        if op == METHOD_GROUPS {
+            case.numbers[3] = pools[1];
+        }
+        if rng.one_in(40) {
+            let i = rng.of(&[0, 1, 2, 3, 8, 9]);
+            case.numbers[i] = rng.next() as u32;
+        }
+        case
+    }
+
+    fn string_bytes(&self, rng: &mut Rng) -> Case {
+        let mut case = Case::new(STRING_BYTES);
+        if rng.one_in(3) {
+            let d = self.dex(rng);
+            let off = d.string_offset(rng);
+            case.file = d.file;
+            case.numbers[13] = rng.near(off);
+        } else if rng.one_in(3) {
+            // A long text: its zero, if any, stands anywhere.
+            let n = 1 + rng.below(120);
+            case.file = rng.bytes(n, &[0x61, 0x01, 0xff]);
+            case.file[0] &= 0x7f;
+            for _ in 0..rng.below(3) {
+                let at = rng.below(n);
+                case.file[at] = 0;
+            }
+            case.numbers[13] = if rng.one_in(2) { 0 } else { rng.below(n) as u32 };
+        } else {
+            let n = rng.below(12);
+            case.file = rng.bytes(n, &[0x00, 0x0f, 0x10, 0x7f, 0x80, 0x81, 0xff, 0x61]);
+            case.numbers[13] = rng.below(n + 2) as u32;
+        }
+        if rng.one_in(50) {
+            case.numbers[13] = rng.next() as u32;
+        }
+        if rng.one_in(60) {
+            case.high = rng.of(&[1, u32::MAX]);
+            case.numbers[13] = rng.of(&[0, 1, u32::MAX - 4, u32::MAX]);
+        }
+        case
+    }
+
+    fn search(&self, op: u32, rng: &mut Rng) -> Case {
+        let d = self.dex(rng);
+        let mut case = d.case(op);
+        match d.string_map() {
+            // One text of two letters behind the file, and many keys in it whose indices are in any order.
+            _ if rng.one_in(6) => {
+                let (from, text, n) = (case.file.len(), 20 + rng.below(180), 1 + rng.below(40));
+                let letters: &[u8] = if rng.one_in(2) { b"aab" } else { b"bbbbbbbbbbbbbbbbbbba" };
+                case.file.extend(rng.bytes(text, letters));
+                case.keys = (0..n).map(|_| ((from + rng.below(text)) as u64) << 32 | rng.below(30) as u64).collect();
+                case.keys.sort();
+                case.keys.dedup();
+                (case.numbers[13], case.numbers[14]) = (from as u32, (from + text) as u32);
+            }
+            Some((keys, start, end)) if !rng.one_in(8) => {
+                case.keys = keys;
+                case.numbers[13] = start;
+                case.numbers[14] = end;
+            }
+            _ => {
+                let n = case.file.len();
+                case.keys = (0..rng.below(6)).map(|_| (rng.below(n + 2) as u64) << 32 | rng.below(5) as u64).collect();
+                if !rng.one_in(4) {
+                    case.keys.sort();
+                    case.keys.dedup();
+                }
+                case.numbers[13] = rng.below(n + 2) as u32;
+                case.numbers[14] = rng.below(n + 2) as u32;
+                if case.numbers[13] > case.numbers[14] && !rng.one_in(4) {
+                    case.numbers.swap(13, 14);
+                }
+            }
+        }
+        if rng.one_in(16) {
+            case.numbers[13] = rng.near(case.numbers[13]);
+        }
+        if rng.one_in(16) {
+            let n = case.file.len() as u32;
+            let near_end = rng.near(n);
+            case.numbers[14] = rng.of(&[near_end, n, case.numbers[14].wrapping_sub(1)]);
+        }
+        if rng.one_in(24) && !case.keys.is_empty() {
+            let i = rng.below(case.keys.len());
+            match rng.below(5) {
+                0 => case.keys[i] |= 0xffff_ffff,
+                1 => case.keys[i] = case.keys[0],
+                2 => case.keys[i] = rng.next(),
+                3 => case.keys.reverse(),
+                _ => {
+                    case.keys.remove(i);
+                }
+            }
+        }
+        case.query = query(&case, rng);
+        if op == METHOD_SEARCH {
+            case.second = query(&case, rng);
+            for q in [&mut case.query, &mut case.second] {
+                if rng.one_in(4) {
+                    q.clear();
+                }
+            }
+        }
+        if op != STRING_SEARCH {
+            case.lists[..2].clone_from_slice(&d.type_groups());
+            if rng.one_in(6) {
+                made_up_groups(&mut case.lists, rng);
+            }
+        }
+        case
+    }
+
+    fn name_filter(&self, rng: &mut Rng) -> Case {
+        let d = self.dex(rng);
+        let mut case = d.case(NAME_FILTER);
+        let count = d.numbers[1];
+        let n = if rng.one_in(8) { rng.below(60) } else { rng.below(7) };
+        case.lists[0] = (0..n).map(|_| rng.below(count as usize) as u32).collect();
+        if rng.one_in(12) && n > 0 {
+            let at = rng.below(n);
+            case.lists[0][at] = rng.near(count);
+        }
+        let mut q = d.text(rng);
+        let a = rng.below(q.len() + 1);
+        let n = rng.below(4);
+        q = q[a..(a + n).min(q.len())].to_vec();
+        for b in &mut q {
+            if rng.one_in(2) {
+                *b = if rng.one_in(2) { b.to_ascii_lowercase() } else { b.to_ascii_uppercase() };
+            }
+        }
+        match rng.below(40) {
+            0 => q = rng.bytes(255, b"ab"),
+            1 => q = rng.bytes(256, b"ab"),
+            2 => q.push(0x80),
+            3 => q = rng.bytes(2, b"@[`{aAzZ"),
+            _ => {}
+        }
+        case.query = q;
+        case
+    }
+
+    fn scan(&self, rng: &mut Rng) -> Case {
+        let mut case = Case::new(SCAN);
+        let kind = 1 + rng.below(4) as u32;
+        if rng.one_in(6) {
+            let d = self.dex(rng);
+            if let Ok((numbers, _)) = document::answer(&generous(d.case(CODE_TABLE))) {
+                case.numbers[13] = numbers[0] as u32;
+                case.numbers[14] = numbers[1].min(d.file.len()) as u32;
+            }
+            case.file = d.file;
+            let n = 1 + rng.below(6);
+            case.lists[0] = rng.words(n, 24);
+        } else {
+            let n = if rng.one_in(4) { rng.below(200) } else { rng.below(40) };
+            case.file = rng.bytes(n, OPENERS[kind as usize - 1]);
+            match rng.below(8) {
+                0 => case.file = rng.bytes(n, &[]),
+                // Few openers among zeros, or among what could be taken for them.
+                5 if n > 0 => {
+                    case.file = rng.bytes(n, &[0x00, 0x05, 0x19, 0x1c]);
+                    for _ in 0..1 + rng.below(4) {
+                        let at = rng.below(n);
+                        case.file[at] = rng.of(&OPENERS[kind as usize - 1][..6]);
+                        if at + 3 < n {
+                            case.file[at + 2..at + 4].copy_from_slice(&[rng.below(7) as u8, 0]);
+                        }
+                    }
+                }
+                // Openers where an instruction may stand, and indices behind them.
+                1..=4 => {
+                    let (even, high) = (rng.below(2), !rng.one_in(4));
+                    for at in (even..n).step_by(4) {
+                        case.file[at] = rng.of(&OPENERS[kind as usize - 1][..6]);
+                        if at + 2 < n {
+                            case.file[at + 2] = rng.below(7) as u8;
+                        }
+                        if at + 3 < n && high {
+                            case.file[at + 3] = 0;
+                        }
+                    }
+                }
+                _ => {}
+            }
+            case.numbers[13] = rng.below(4) as u32;
+            case.numbers[14] = (n - rng.below(3.min(n + 1))) as u32;
+            let m = rng.below(6);
+            case.lists[0] = rng.words(m, 7);
+            for w in &mut case.lists[0] {
+                if rng.one_in(3) {
+                    *w = match rng.below(4) {
+                        0 => *w << 8,
+                        1 => *w << 16,
+                        2 => 0x1a | *w << 8,
+                        _ => rng.next() as u32,
+                    };
+                }
+            }
+            // Indices with one low half.
+            if rng.one_in(4) && m > 0 {
+                let w = case.lists[0][rng.below(m)];
+                for _ in 0..1 + rng.below(3) {
+                    case.lists[0].push(w & 0xffff | (rng.below(3) as u32) << 16);
+                }
+            }
+            // An index that stands in the file.
+            if n >= 4 && rng.one_in(2) {
+                let at = rng.below(n - 3);
+                let w = u32::from_le_bytes(case.file[at..at + 4].try_into().unwrap());
+                case.lists[0].push(if rng.one_in(2) { w & 0xffff } else { w });
+            }
+        }
+        if rng.one_in(20) {
+            case.numbers[13] = rng.near(case.numbers[14]);
+        }
+        if rng.one_in(20) {
+            case.numbers[14] = rng.near(case.file.len() as u32);
+        }
+        case.numbers[15] = if rng.one_in(40) { rng.of(&[0, 5, 6, 257, u32::MAX]) } else { kind };
+        case
+    }
+
+    fn locate(&self, rng: &mut Rng) -> Case {
+        let mut case = Case::new(LOCATE);
+        let table = if !rng.one_in(3) {
+            let d = self.dex(rng);
+            let mut c = generous(d.case(CODE_TABLE));
+            c.op = CODE_TABLE;
+            document::answer(&c).ok().map(|a| (d.file, a))
+        } else {
+            None
+        };
+        if let Some((file, (numbers, lists))) = table {
+            case.numbers[13] = (numbers[0] / 16) as u32;
+            for (to, from) in [(0, 2), (1, 0), (2, 3)] {
+                case.lists[to] = lists[from].iter().map(|&w| w as u32).collect();
+            }
+            let n = rng.below(12);
+            let (a, e) = (numbers[0], numbers[1].min(file.len() + 3));
+            case.lists[3] = (0..n).map(|_| (a + rng.below((e + 2).saturating_sub(a).max(1))) as u32).collect();
+            // Starts of instructions: what the walks confirm.
+            for &start in case.lists[1].clone().iter().filter(|&&s| s != 0) {
+                let mut pos = start as usize;
+                for _ in 0..rng.below(6) {
+                    if rng.one_in(2) {
+                        case.lists[3].push(pos as u32);
+                    }
+                    let op = file.get(pos).copied().unwrap_or(0);
+                    pos += 2 * source::opcode_lengths::units(op).max(1) as usize;
+                }
+            }
+            if !rng.one_in(4) {
+                case.lists[3].sort();
+            }
+            case.file = file;
+        } else {
+            let n = rng.below(70);
+            case.file = rng.bytes(n, &[0x00, 0x00, 0x0e, 0x12, 0x1a, 0x02, 0x1b, 0x6e, 0xfa, 0x18, 0x73, 0x01]);
+            case.numbers[13] = rng.below(3) as u32;
+            let (slots, starts, shares, entries) = (rng.below(6), rng.below(6), rng.below(5), rng.below(9));
+            case.lists[1] = (0..starts).map(|_| if rng.one_in(5) { 0 } else { rng.below(n + 2) as u32 }).collect();
+            case.lists[2] = (0..shares)
+                .flat_map(|k| [rng.below(starts + 1 - starts.min(1)) as u32, rng.below(6) as u32, rng.below(k + 1) as u32])
+                .collect();
+            if rng.one_in(8) {
+                case.lists[2].pop();
+            }
+            case.lists[0] = (0..slots).map(|_| slot_word(rng, starts, shares)).collect();
+            case.lists[3] = (0..entries).map(|_| rng.below(n + 40) as u32).collect();
+            if rng.one_in(2) {
+                case.lists[3].sort();
+            }
+        }
+        if rng.one_in(30) {
+            case.numbers[13] = rng.near(case.numbers[13]);
+        }
+        if rng.one_in(30) {
+            let i = rng.below(4);
+            if !case.lists[i].is_empty() {
+                let at = rng.below(case.lists[i].len());
+                let w = case.lists[i][at];
+                case.lists[i][at] = rng.near(w);
+            }
+        }
+        case
+    }
+
+    fn find(&self, rng: &mut Rng) -> Case {
+        let mut case = self.dex(rng).case(FIND);
+        case.numbers[13] = if rng.one_in(40) { rng.of(&[0, 5, u32::MAX]) } else { 1 + rng.below(4) as u32 };
+        let n = rng.below(5);
+        case.lists[0] = rng.words(n, 9);
+        case
+    }
+
+    fn list_slot(&self, rng: &mut Rng) -> Case {
+        let mut case = Case::new(LIST_SLOT);
+        if rng.one_in(6) {
+            if let Ok((_, lists)) = document::answer(&generous(self.dex(rng).case(CODE_TABLE))) {
+                case.lists[0] = lists[3].iter().map(|&w| w as u32).collect();
+                let slots = &lists[2];
+                case.numbers[13] = if slots.is_empty() { 0 } else { slots[rng.below(slots.len())] as u32 };
+                return case;
+            }
+        }
+        let n = rng.below(9);
+        for k in 0..n {
+            let earlier = match rng.below(10) {
+                0..=2 => 0,
+                3 => rng.below(n + 2),
+                _ => rng.below(k + 1),
+            };
+            let (first, last) = (rng.below(20), rng.below(20));
+            case.lists[0].extend([first as u32, last as u32, earlier as u32]);
+        }
+        // A chain through all shares.
+        if rng.one_in(3) {
+            for k in 0..n {
+                case.lists[0][3 * k + 2] = k as u32;
+            }
+        }
+        if rng.one_in(10) {
+            case.lists[0].pop();
+        }
+        case.numbers[13] = slot_word(rng, 20, n);
+        case
+    }
+}
+
+/// A slot word: free, a method, or a share, now and then one too far.
+fn slot_word(rng: &mut Rng, methods: usize, shares: usize) -> u32 {
+    match rng.below(12) {
+        0 | 1 => 0,
+        2..=6 => 1 + rng.below(methods.max(1)) as u32,
+        7 if rng.one_in(4) => rng.of(&[0x7fff_ffff, 0x8000_0000, u32::MAX, methods as u32 + 1]),
+        8 if rng.one_in(4) => 0x8000_0000 + shares as u32,
+        _ if shares == 0 => 1 + rng.below(methods.max(1)) as u32,
+        _ => 0x8000_0000 + rng.below(shares) as u32,
+    }
+}
+
+const OPENERS: [&[u8]; 4] = [
+    &[0x1a, 0x1a, 0x1b, 0x1b, 0x00, 0x00, 0x00, 0x05, 0x06, 0x19, 0x1c],
+    &[0x1c, 0x1f, 0x20, 0x21, 0x22, 0x25, 0x26, 0x00, 0x00, 0x05, 0x05],
+    &[0x51, 0x52, 0x5f, 0x60, 0x6d, 0x6e, 0x00, 0x00, 0x05, 0x05],
+    &[0x6d, 0x6e, 0x72, 0x73, 0x74, 0x78, 0x79, 0xf9, 0xfa, 0xfb, 0xfc, 0x00, 0x00, 0x00, 0x05, 0x05],
+];
+
+/// A query: mostly bytes that stand in the area or the file.
+fn query(case: &Case, rng: &mut Rng) -> Vec<u8> {
+    match rng.below(24) {
+        0 => vec![],
+        1 => rng.bytes(255, b"ab"),
+        2 => rng.bytes(256, b"ab"),
+        3 => rng.bytes(1, &[0x00, 0x01, 0x80, b'a']),
+        4..=9 => {
+            let n = 1 + rng.below(3);
+            rng.bytes(n, b"abL;")
+        }
+        _ => {
+            let (a, e) = (case.numbers[13] as usize, (case.numbers[14] as usize).min(case.file.len()));
+            let area = if a < e { &case.file[a..e] } else { &case.file[..] };
+            let at = rng.below(area.len());
+            let n = if rng.one_in(30) { rng.of(&[254, 255, 256]) } else { 1 + rng.below(5) };
+            area[at.min(area.len())..(at + n).min(area.len())].to_vec()
+        }
+    }
+}
+
+/// Many strings whose data begin anywhere in one short text, in any order, often on one offset.
+fn many_strings(rng: &mut Rng) -> Case {
+    let mut case = Case::new(STRING_MAP);
+    let n = if rng.one_in(8) { rng.below(300) } else { rng.below(24) };
+    let (before, text) = (rng.below(5), 1 + rng.below(60));
+    case.file = rng.bytes(before, &[]);
+    case.numbers[..2].copy_from_slice(&[before as u32, n as u32]);
+    let area = before + 4 * n;
+    for i in 0..n {
+        let at = match rng.below(3) {
+            0 => area + i * text / n,
+            _ => area + rng.below(text),
+        };
+        case.file.extend((at as u32).to_le_bytes());
+    }
+    case.file.extend(rng.bytes(text, &[0x00, 0x61, 0x61, 0x7f, 0x80]));
+    // The last string may have a length of any number of bytes.
+    if n > 0 && rng.one_in(3) {
+        let last = case.file.len() as u32;
+        let at = before + 4 * rng.below(n);
+        case.file[at..at + 4].copy_from_slice(&last.to_le_bytes());
+        let long = rng.below(9);
+        case.file.extend(rng.bytes(long, &[0x80, 0xff]));
+        let tail = 1 + rng.below(3);
+        case.file.extend(rng.bytes(tail, &[0x00, 0x01, 0x7f]));
+    }
+    if rng.one_in(3) {
+        let n = rng.below(70);
+        case.file.extend(rng.bytes(n, &[0x61, 0x01, 0x80]));
+    }
+    if !rng.one_in(4) {
+        case.file.push(0);
+    }
+    case
+}
+
+fn made_up_groups(lists: &mut [Vec<u32>; 4], rng: &mut Rng) {
+    let (n, m) = (rng.below(7), rng.below(7));
+    lists[0] = (0..n).map(|_| rng.below(m + 1) as u32).collect();
+    if !rng.one_in(3) {
+        lists[0].sort();
+    }
+    if rng.one_in(8) && n > 0 {
+        let at = rng.below(n);
+        lists[0][at] = rng.near(m as u32);
+    }
+    lists[1] = rng.words(m, 6);
+}
+
+fn group(rng: &mut Rng) -> Case {
+    let mut case = Case::new(GROUP);
+    made_up_groups(&mut case.lists, rng);
+    let n = case.lists[0].len() as u32;
+    case.numbers[13] = if rng.one_in(3) { rng.near(n.wrapping_sub(1)) } else { rng.below(n as usize + 1) as u32 };
+    case
+}
+
+/// A case whose lent slices are large enough for what is made here.
+pub fn generous(mut case: Case) -> Case {
+    case.lent = [1 << 17; 8];
+    case
+}
+
+fn lent(case: &mut Case, lengths: &[u32]) {
+    case.lent[..lengths.len()].copy_from_slice(lengths);
+}
+
+/// Lends what the answer needs, often exactly, now and then a word less or more.
+fn lend(case: &mut Case, rng: &mut Rng) {
+    let (_, outs) = shape(case.op);
+    *case = generous(std::mem::take(case));
+    let mut needed = [16usize; 8];
+    if let Ok((_, lists)) = document::answer(case) {
+        for (n, list) in needed.iter_mut().zip(&lists) {
+            *n = list.len();
+        }
+        match case.op {
+            // Lent to work in: what they need isn't in the answer.
+            TYPE_SEARCH | METHOD_SEARCH => {
+                let spare = |rng: &mut Rng| if rng.one_in(2) { 64 } else { rng.below(8) };
+                needed[0] = spare(rng);
+                if case.op == METHOD_SEARCH {
+                    needed[1] = spare(rng);
+                }
+            }
+            LOCATE => needed[0] = case.lists[1].len(),
+            _ => {}
+        }
+    }
+    let short = rng.one_in(8);
+    for i in 0..8 {
+        // The finder's further words: one for each start word lent.
+        let n = if case.op == FIND && i == 6 { case.lent(0) } else { needed[i] };
+        let n = match rng.below(8) {
+            0 | 1 if short => n.saturating_sub(1),
+            2 if short => rng.below(n + 1),
+            3 | 4 => n + 1 + rng.below(3),
+            5 => n + 7,
+            _ => n,
+        };
+        case.lent[i] = if i < outs { n as u32 } else { 0 };
+    }
+}
+
+/// Files at the limit of document 01 and one byte above, and a method index at its limit.
+fn largest(op: u32, rng: &mut Rng) -> Option<Case> {
+    let mut case = Case::new(op);
+    if matches!(op, GROUP | LIST_SLOT) {
+        return None;
+    }
+    let n = LARGEST + rng.below(2);
+    case.file = vec![0; n];
+    case.query = b"a".to_vec();
+    match op {
+        STRING_MAP => (case.numbers[0], case.numbers[1]) = (n as u32 - 4, 1),
+        STRING_BYTES => case.numbers[13] = n as u32 - 2,
+        STRING_SEARCH | TYPE_SEARCH | METHOD_SEARCH => {
+            (case.numbers[13], case.numbers[14]) = (1, n as u32);
+            case.keys = vec![1 << 32, 5 << 32 | 1];
+            case.file[n - 1] = b'a';
+        }
+        SCAN => {
+            (case.numbers[13], case.numbers[14], case.numbers[15]) = (0, n as u32, 1 + rng.below(4) as u32);
+            case.lists[0] = vec![0];
+            let ops = [0x1a, 0x1c, 0x52, 0x6e];
+            case.file[n - 4 - n % 2] = ops[case.numbers[15] as usize - 1];
+        }
+        LOCATE => {
+            let at = n as u32 - 2;
+            case.numbers[13] = at / 16;
+            case.lists = [vec![1], vec![at / 16 * 16], vec![], vec![at]];
+        }
+        CODE_TABLE if rng.one_in(2) => {
+            // By class definition: class data at 32, one method of the greatest index and one more, code at 64.
+            let index = 16_777_215 + rng.below(2) as u64;
+            let mut data = vec![0, 0, 1, 0];
+            [index, 0, 64].iter().for_each(|&x| leb(&mut data, x));
+            case.file = vec![0; 96];
+            case.file[24] = 32;
+            case.file[32..32 + data.len()].copy_from_slice(&data);
+            case.file[76] = 1;
+            case.numbers[11] = 1;
+            case.numbers[9] = 16_777_217;
+            lent(&mut case, &[16_777_217, 3, 1, 0]);
+            return Some(case);
+        }
+        _ => {}
+    }
+    let (_, outs) = shape(op);
+    case.lent[..outs].fill(4);
+    Some(case)
+}
+
+/// The small inputs that are counted through, by their number.
+fn counted(op: u32, index: u64) -> Option<Case> {
+    let mut d = Digits(index);
+    let mut c = Case::new(op);
+    match op {
+        TYPE_GROUPS => {
+            let keys = d.list(&[0u32, 1, 2, 3], 3);
+            c.file = keys.iter().flat_map(|k| k.to_le_bytes()).collect();
+            c.numbers[3] = (keys.len() + d.take(2)) as u32;
+            c.numbers[1] = d.take(4) as u32;
+            lent(&mut c, &[5 - d.take(5) as u32, 4 - d.take(4) as u32, 0, 0]);
+        }
+        METHOD_GROUPS => {
+            let ids = d.list(&[(0u16, 0u32), (1, 0), (0, 1), (1, 1), (2, 2)], 2);
+            for (class, name) in &ids {
+                c.file.extend(class.to_le_bytes());
+                c.file.extend([7, 7]);
+                c.file.extend(name.to_le_bytes());
+            }
+            c.numbers[9] = (ids.len() + d.take(2)) as u32;
+            (c.numbers[1], c.numbers[3]) = (d.take(3) as u32, d.take(3) as u32);
+            lent(&mut c, &[3 - d.take(3) as u32, 2 - d.take(2) as u32, 3 - d.take(3) as u32, 2 - d.take(2) as u32]);
+        }
+        GROUP => {
+            c.lists[0] = d.list(&[0u32, 1, 2, 3, u32::MAX], 4);
+            c.lists[1] = (5..5 + d.take(4) as u32).collect();
+            c.numbers[13] = [0, 1, 2, 3, 4, u32::MAX - 1, u32::MAX][d.take(7)];
+        }
+        STRING_MAP => {
+            let n = 1 + d.take(2);
+            let text = d.list(&[0x00u8, 0x61, 0x7f, 0x80], 5);
+            for _ in 0..n {
+                let o = 4 * n as u32 + d.take(6) as u32;
+                c.file.extend(o.to_le_bytes());
+            }
+            c.file.extend(text);
+            c.numbers[1] = n as u32;
+            c.lent[0] = 1 + d.take(3) as u32;
+        }
+        STRING_BYTES => {
+            c.file = d.list(&[0x00u8, 0x0f, 0x10, 0x7f, 0x80, 0xff], 6);
+            c.numbers[13] = d.take(4) as u32;
+        }
+        STRING_SEARCH => {
+            c.file = d.list(b"ab\0", 5);
+            c.query = d.list(b"ab", 3);
+            c.keys = d.list(&[0u64, 1, 1 << 32, 2 << 32 | 2, 4 << 32 | 1], 2);
+            c.numbers[13] = d.take(2) as u32;
+            c.numbers[14] = c.file.len() as u32;
+            c.lent[0] = 2;
+        }
+        TYPE_SEARCH => {
+            c.file = d.list(b"ab", 4);
+            c.query = d.list(b"ab", 2);
+            c.keys = vec![0, 1 << 32 | 1, 2 << 32 | 2];
+            c.numbers[14] = c.file.len() as u32;
+            c.lists[0] = d.list(&[0, 1, 2, 3], 4);
+            c.lists[1] = vec![4, 2, 4];
+            lent(&mut c, &[3, 2, 0, 0]);
+        }
+        METHOD_SEARCH => {
+            let area = d.list(b"ab", 3);
+            for _ in 0..2 {
+                c.file.extend([d.take(3) as u8, 0, 0, 0, d.take(3) as u8, 0, 0, 0]);
+            }
+            (c.numbers[8], c.numbers[9]) = (0, 2);
+            c.numbers[13] = 16;
+            c.numbers[14] = 16 + area.len() as u32;
+            c.file.extend(area);
+            c.query = d.list(b"ab", 1);
+            c.second = d.list(b"ab", 1);
+            c.keys = vec![16 << 32, 17 << 32 | 1, 18 << 32 | 2];
+            c.lists[0] = vec![0, 1, 2, 3];
+            c.lists[1] = vec![1, 0, 2];
+            lent(&mut c, &[3, 3, 2, 0]);
+        }
+        NAME_FILTER => {
+            let text = d.list(&[b'a', b'B', b'b', 0x80], 4);
+            c.query = d.list(b"aAb", 2);
+            let tail = d.take(2);
+            c.file = vec![0; 0x74];
+            c.file[0x38] = 1;
+            c.file[0x3c] = 0x70;
+            c.file[0x70] = 0x74;
+            c.file.push(text.len() as u8);
+            c.file.extend(text);
+            c.file.extend(&[0][..tail]);
+            c.lists[0] = vec![0; d.take(3)];
+            c.lent[0] = d.take(2) as u32;
+        }
+        CODE_TABLE => {
+            // By the map, one class data item behind it, of any six bytes; a code item at 48 of one unit.
+            let data = d.list(&[0x00u8, 0x01, 0x02, 0x30, 0x80], 7);
+            let mut file = vec![0xff, 1, 0, 0, 0, 0, 0x20, 0, 0, 1, 0, 0, 0, 17, 0, 0, 0];
+            file.extend(data);
+            if d.take(2) == 1 {
+                file.resize(66, 0);
+                file[60] = 1;
+            }
+            c.file = file;
+            c.numbers[12] = 1;
+            c.numbers[9] = 1 + d.take(2) as u32;
+            lent(&mut c, &[2, 6, 1, 3]);
+        }
+        SCAN => {
+            let kind = d.take(4);
+            let alphabets: [&[u8]; 4] =
+                [&[0x00, 0x05, 0x1a, 0x1b], &[0x00, 0x05, 0x22, 0x24], &[0x00, 0x05, 0x52, 0x6d], &[0x00, 0x05, 0x6e, 0xfa]];
+            c.file = d.list(alphabets[kind], 6);
+            c.numbers[15] = kind as u32 + 1;
+            c.numbers[14] = c.file.len() as u32;
+            c.numbers[13] = d.take(2) as u32;
+            c.lists[0] = vec![0x505, 5];
+            lent(&mut c, &[2, 2, 0, 0]);
+        }
+        LOCATE => {
+            c.file = d.list(&[0x00u8, 0x02, 0x03, 0x73], 5);
+            c.lists[0] = vec![[0u32, 1, 2, 0x8000_0000][d.take(4)]];
+            c.lists[1] = d.list(&[0u32, 1, 2], 2);
+            c.lists[2] = vec![1, 0, 0];
+            c.lists[3] = vec![d.take(6) as u32, 4];
+            lent(&mut c, &[2, 2, 0, 0]);
+        }
+        FIND => return None,
+        LIST_SLOT => {
+            for _ in 0..d.take(4) {
+                c.lists[0].extend([7, 4, d.take(5) as u32]);
+            }
+            c.numbers[13] = [0, 1, 0x7fff_ffff, 0x8000_0000, 0x8000_0001, 0x8000_0002, 0x8000_0003, u32::MAX][d.take(8)];
+            c.lent[0] = d.take(5) as u32;
+        }
+        _ => unreachable!(),
+    }
+    d.done(c)
+}

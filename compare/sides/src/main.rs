@@ -1,0 +1,171 @@
+//! The comparison: ours against the Rust on the domain, against document 01 off it. Called by ../run, which says how.
+
+use sides::case::*;
+use sides::inputs::Inputs;
+use sides::{expected, ours, shrink, silence, Expected};
+use std::io::Write;
+use std::path::PathBuf;
+use std::sync::atomic::{AtomicU64, Ordering::Relaxed};
+use std::sync::Mutex;
+use std::time::Instant;
+
+/// Reports of unequal cases are printed up to so many for an operation.
+const REPORTS: u64 = 5;
+
+/// compared: on the domain, with the Rust; found: of the equal ones, with more than an empty answer. Off the domain, held against document
+/// 01: refused, and answered (the Rust panics, or can't be asked).
+const HEAD: &str = "operation      compared    equal    found  refused answered  unequal";
+
+enum Class {
+    /// With something found, or the empty answer.
+    Equal(bool),
+    Refused,
+    Answered,
+    Unequal,
+}
+
+/// Whether an answer says more than that there is nothing.
+fn found(op: u32, outcome: &Outcome) -> bool {
+    match op {
+        LOCATE => outcome.outs[1].iter().any(|&w| w != 0),
+        GROUP | STRING_BYTES => outcome.numbers[1] != 0,
+        CODE_TABLE | FIND => outcome.numbers[2] != 0,
+        _ => outcome.numbers[0] != 0,
+    }
+}
+
+fn class(case: &Case) -> Class {
+    match expected(case) {
+        Expected::Domain(outcome) if ours::answer(case) == outcome => Class::Equal(found(case.op, &outcome)),
+        Expected::Off(outcome) if ours::answer(case) == outcome => {
+            if outcome.refusal == 0 { Class::Answered } else { Class::Refused }
+        }
+        _ => Class::Unequal,
+    }
+}
+
+fn report(case: &Case) -> String {
+    let case = shrink::smaller(case, |c| matches!(class(c), Class::Unequal));
+    let (what, lines) = match expected(&case) {
+        Expected::Domain(o) => ("ours differs from the Rust", vec![("Rust", o)]),
+        Expected::Off(o) => ("ours differs from document 01, off the domain", vec![("document 01", o)]),
+        Expected::Dispute { theirs: Some(t), document } => ("the Rust differs from document 01", vec![("Rust", t), ("document 01", document)]),
+        Expected::Dispute { theirs: None, document } => ("the Rust panics without a fault", vec![("document 01", document)]),
+    };
+    let mut text = format!("UNEQUAL: {what}\n  {}\n  ours: {}\n", case.describe(), ours::answer(&case).line(case.op));
+    for (who, outcome) in lines {
+        text += &format!("  {who}: {}\n", outcome.line(case.op));
+    }
+    text
+}
+
+#[derive(Default)]
+struct Counts {
+    equal: AtomicU64,
+    found: AtomicU64,
+    refused: AtomicU64,
+    answered: AtomicU64,
+    unequal: AtomicU64,
+    next: AtomicU64,
+}
+
+fn main() {
+    let (mut seed, mut count, mut only, mut threads) = (1u64, 1_000_000u64, None, 2);
+    let (mut sample, mut folder) = (PathBuf::new(), PathBuf::new());
+    let mut args = std::env::args().skip(1);
+    while let Some(a) = args.next() {
+        let mut value = || args.next().unwrap_or_else(|| usage());
+        match a.as_str() {
+            "--seed" => seed = value().parse().unwrap_or_else(|_| usage()),
+            "--count" => count = value().parse().unwrap_or_else(|_| usage()),
+            "--threads" => threads = value().parse().unwrap_or_else(|_| usage()),
+            "--op" => {
+                let name = value();
+                only = Some(OPS.iter().position(|&o| o == name).unwrap_or_else(|| usage()) as u32 + 1);
+            }
+            "--sample" => sample = value().into(),
+            "--files" => folder = value().into(),
+            _ => usage(),
+        }
+    }
+    silence();
+    eprintln!("{HEAD}");
+    let inputs = Inputs::new(seed, &sample, &folder);
+    let start = Instant::now();
+    let mut lines = Vec::new();
+    let mut bad = 0;
+    for op in (1..=OPS.len() as u32).filter(|&op| only.is_none_or(|o| o == op)) {
+        let counts = Counts::default();
+        let out = Mutex::new(());
+        // As many cases as it takes to compare `count` on the domain, ten times that at most.
+        let mut made = 0;
+        loop {
+            let compared = counts.equal.load(Relaxed) + counts.unequal.load(Relaxed);
+            if compared >= count || made >= 10 * count {
+                break;
+            }
+            let (from, to) = (made, made + (count - compared).max(1000));
+            counts.next.store(from, Relaxed);
+            std::thread::scope(|s| {
+                for _ in 0..threads {
+                    s.spawn(|| work(op, to, &inputs, &counts, &out));
+                }
+            });
+            made = to;
+        }
+        let [equal, found, refused, answered, unequal] =
+            [&counts.equal, &counts.found, &counts.refused, &counts.answered, &counts.unequal].map(|c| c.load(Relaxed));
+        bad += unequal;
+        lines.push(format!(
+            "{:14}{:>9}{equal:>9}{found:>9}{refused:>9}{answered:>9}{unequal:>9}",
+            OPS[op as usize - 1],
+            equal + unequal
+        ));
+        eprintln!("\r{}   {:.0} s", lines.last().unwrap(), start.elapsed().as_secs_f64());
+    }
+    println!("seed {seed}, {count} cases an operation on the domain, {:.0} s", start.elapsed().as_secs_f64());
+    println!("{HEAD}");
+    lines.iter().for_each(|l| println!("{l}"));
+    println!("{bad} unequal");
+    std::process::exit(if bad == 0 { 0 } else { 1 });
+}
+
+/// The cases up to `to`, in stretches that the threads take in turn.
+fn work(op: u32, to: u64, inputs: &Inputs, counts: &Counts, out: &Mutex<()>) {
+    const STRETCH: u64 = 1000;
+    loop {
+        let from = counts.next.fetch_add(STRETCH, Relaxed);
+        if from >= to {
+            return;
+        }
+        for index in from..(from + STRETCH).min(to) {
+            let case = inputs.case(op, index);
+            let counter = match class(&case) {
+                Class::Equal(found) => {
+                    counts.found.fetch_add(found as u64, Relaxed);
+                    &counts.equal
+                }
+                Class::Refused => &counts.refused,
+                Class::Answered => &counts.answered,
+                Class::Unequal => {
+                    if counts.unequal.load(Relaxed) < REPORTS {
+                        let text = report(&case);
+                        let _held = out.lock();
+                        print!("case {index}: {text}");
+                    }
+                    &counts.unequal
+                }
+            };
+            counter.fetch_add(1, Relaxed);
+        }
+        if from % 20_000 == 0 {
+            eprint!("\r{:14} case {from}", OPS[op as usize - 1]);
+            let _ = std::io::stderr().flush();
+        }
+    }
+}
+
+fn usage() -> ! {
+    eprintln!("usage: run [--seed S] [--count N] [--op NAME]\noperations: {}", OPS.join(" "));
+    std::process::exit(2)
+}
