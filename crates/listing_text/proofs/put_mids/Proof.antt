@@ -1,0 +1,66 @@
+use native.Mathlib.Omega.{arith}
+use Prim.Native.Nat.{_-_}
+use lib.ListN.{length, getD, take, drop}
+use Rattle.listing_text.specs.Text.{decimal, more}
+use Rattle.listing_text.proofs.Laws.{appends-then, mids-some, mids-none}
+use borrow.Author.Needs.{needs}
+use Rattle.listing_text.proofs.put_mids.Statement.{statement}
+use Rattle.listing_text.proofs.put_mids.Tie as tie
+
+slice-aggregate-put : tie.Need-slice-aggregate-put
+slice-aggregate-put c = search needs
+
+put-requires : tie.Need-put-requires
+put-requires c κs = search needs
+
+same-length : tie.Need-same-length
+same-length c = search needs
+
+returns : tie.Need-returns
+returns c =
+    let a = c .before .before .before .before .before .before .before .before .args in
+    rw (mids-none (a .mids .now) (c .before .before .before .before .before .if1 .taken)) (c .before .before .put .ensures)
+
+shared-slice-read-put-word : tie.Need-shared-slice-read-put-word
+shared-slice-read-put-word c = search needs
+
+put-word-requires : tie.Need-put-word-requires
+put-word-requires c κs = search needs
+
+sub-put-rest : tie.Need-sub-put-rest
+sub-put-rest c = search needs
+
+part-put-rest-start : tie.Need-part-put-rest-start
+part-put-rest-start c = search needs
+
+part-put-rest-end : tie.Need-part-put-rest-end
+part-put-rest-end c = search needs
+
+put-rest-requires : tie.Need-put-rest-requires
+put-rest-requires c κs = search needs
+
+same-length-2 : tie.Need-same-length-2
+same-length-2 c = search needs
+
+returns-2 : tie.Need-returns-2
+returns-2 c =
+    let a = c .before .before .before .before .before .before .before .before .before .before .before .before .before .args in
+    let ms = a .mids .now in
+    rw (mids-some ms (omega arith)) (appends-then _ _ (decimal (getD ms 0 0)) (c .before .before .before .before .before .before .before .put-word .last .0) _ (more (take (length ms - 1) (drop 1 ms))) _ _ (c .before .before .before .before .before .before .before .put-word .ensures) (c .before .before .put-rest .ensures))
+
+pub put-mids-spec : {M : Type 1} → statement M
+put-mids-spec =
+    tie.close
+    (tie.spec
+    slice-aggregate-put
+    put-requires
+    same-length
+    returns
+    shared-slice-read-put-word
+    put-word-requires
+    sub-put-rest
+    part-put-rest-start
+    part-put-rest-end
+    put-rest-requires
+    same-length-2
+    returns-2)

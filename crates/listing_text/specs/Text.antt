@@ -1,0 +1,77 @@
+-- What `refs` prints, letter by letter: document 01, "Program".
+-- Assumes nothing.
+use Prim.Native.Nat.{ℕ, zero, suc, _+_, _^_}
+use mathlib.Core.List.{List, [], _∷_, _++_}
+use mathlib.Core.Bool.{cond, _&&_}
+use lib.ListN.{length}
+use lib.Dec.{leb, eqb}
+use Rattle.io.specs.Digits.{digits}
+use Rattle.refusal.specs.declared.Refusal.{Refusal}
+use Rattle.refusal.specs.Refusals.{refusalNumber}
+use Rattle.refusal.specs.Outcomes.{Outcome, refused, success}
+use Rattle.request_lines.specs.Lines.{kind=, string′, type′, field′, method′}
+
+-- the greatest power of ten, up to the k-th, that is not past n; the 0th where none is
+unfoldable pub reach : ℕ → ℕ → ℕ
+reach zero n = 0
+reach (suc k) n = cond (leb (10 ^ suc k) n) (suc k) (reach k n)
+
+-- the digits of n below 10^20, without leading zeros, and 0 as one digit
+unfoldable pub decimal : ℕ → List ℕ
+decimal n = digits 10 (reach 19 n + 1) n
+
+-- the letters
+abbrev pub feed : List ℕ
+feed = 10 ∷ []
+
+abbrev pub hits= : List ℕ
+hits= = 10 ∷ 104 ∷ 105 ∷ 116 ∷ 115 ∷ 61 ∷ []
+
+abbrev pub off= : List ℕ
+off= = 111 ∷ 102 ∷ 102 ∷ 61 ∷ []
+
+abbrev pub idx= : List ℕ
+idx= = 32 ∷ 105 ∷ 100 ∷ 120 ∷ 61 ∷ []
+
+abbrev pub mids= : List ℕ
+mids= = 32 ∷ 109 ∷ 105 ∷ 100 ∷ 115 ∷ 61 ∷ []
+
+abbrev pub refusal= : List ℕ
+refusal= = 114 ∷ 101 ∷ 102 ∷ 117 ∷ 115 ∷ 97 ∷ 108 ∷ 61 ∷ []
+
+-- a comma before each
+unfoldable pub more : List ℕ → List ℕ
+more [] = []
+more (m ∷ ms) = (44 ∷ decimal m) ++ more ms
+
+-- commas between them, and `-` for none
+unfoldable pub midsText : List ℕ → List ℕ
+midsText [] = 45 ∷ []
+midsText (m ∷ ms) = decimal m ++ more ms
+
+-- of the kinds 1 to 4
+unfoldable pub kindName : ℕ → List ℕ
+kindName k = cond (eqb k 1) string′ (cond (eqb k 2) type′ (cond (eqb k 3) field′ method′))
+
+abbrev pub entryText : ℕ → ℕ → List ℕ → List ℕ
+entryText off idx mids = off= ++ decimal off ++ idx= ++ decimal idx ++ mids= ++ midsText mids ++ feed
+
+abbrev pub headText : ℕ → ℕ → List ℕ
+headText kind hits = kind= ++ kindName kind ++ hits= ++ decimal hits ++ feed
+
+abbrev pub refusalText : Refusal → List ℕ
+refusalText why = refusal= ++ decimal (refusalNumber why) ++ feed
+
+-- the outcome of a text where room bytes are lent
+unfoldable pub textOut : List ℕ → ℕ → Outcome
+textOut text room = cond (leb (length text) room) (success text) (refused 4)
+
+unfoldable pub entryOut : ℕ → ℕ → List ℕ → ℕ → Outcome
+entryOut off idx mids room = textOut (entryText off idx mids) room
+
+-- a number that is no kind's is refused first
+unfoldable pub headOut : ℕ → ℕ → ℕ → Outcome
+headOut kind hits room = cond (leb 1 kind && leb kind 4) (textOut (headText kind hits) room) (refused 2)
+
+unfoldable pub refusalOut : Refusal → ℕ → Outcome
+refusalOut why room = textOut (refusalText why) room
