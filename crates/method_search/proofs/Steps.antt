@@ -25,7 +25,7 @@ use Rattle.rising.specs.Found.{Found}
 use Rattle.words.specs.Rising.{Rising}
 use Rattle.rising.specs.Rising.{Contains}
 use Rattle.rising.proofs.Sets.{is-in, not-in}
-use Rattle.rising.proofs.Found.{numbered}
+use Rattle.refusal.proofs.Numbers.{numbered}
 use Rattle.string_search.specs.Search.{Decides, searchFault}
 use Rattle.string_search.proofs.Faults.{no-fault, fault-none}
 use Rattle.method_search.specs.Methods.{Among, methodFault}

@@ -17,7 +17,7 @@ use Rattle.dalvik.specs.Ids.{item, stringIdSize, string-data-off}
 use Rattle.refusal.specs.declared.Refusal.{Refusal}
 use Rattle.refusal.specs.Refusals.{refusalNumber, tooLarge}
 use Rattle.rising.proofs.Sets.{below-or-not}
-use Rattle.rising.proofs.Found.{numbered}
+use Rattle.refusal.proofs.Numbers.{numbered}
 use Rattle.string_data.specs.Text.{Found, none, found, stringText, stretchOf}
 use Rattle.name_filter.specs.Names.{isAscii, textFault, nameFault, orFault, firstFault, filterFault, Known}
 

@@ -14,7 +14,7 @@ use Rattle.refusal.specs.declared.Answer.the-variants.{Done, Refused}
 use Rattle.refusal.specs.Refusals.{refusalNumber}
 use Rattle.refusal.specs.Outcomes.{Outcome, Gives, refused}
 use Rattle.refusal.proofs.Outcomes.{gives-refused}
-use Rattle.rising.proofs.Found.{numbered}
+use Rattle.refusal.proofs.Numbers.{numbered}
 use Rattle.listing_text.specs.Text.{entryOut}
 use Rattle.refs_program.specs.Line.{lineBy, lineAt, firstRefused, Tries}
 

@@ -1,7 +1,10 @@
 -- No refusal has the number of success.
 -- Assumes nothing.
 use mathlib.Core.Path.{_≡_}
+use mathlib.Core.Bool.{false}
+use lib.Dec.{eqb}
 use native.Mathlib.Omega.{arith}
+use borrow.Author.Tests.{ne-eqb}
 use Rattle.refusal.specs.declared.Refusal.{Refusal}
 use Rattle.refusal.specs.declared.Refusal.the-variants.{FileTooLarge, UnknownKind, TableOutside, LentTooShort, StringOutside, NumberOutside, MethodIndex, CodeOutside, BadQuery, LengthOverflow, NotAscii, RegionOutside, StringIndex, BadRequest, LentTable}
 use Rattle.refusal.specs.Refusals.{refusalNumber}
@@ -22,3 +25,6 @@ some-number RegionOutside e = omega arith
 some-number StringIndex e = omega arith
 some-number BadRequest e = omega arith
 some-number LentTable e = omega arith
+
+pub numbered : (r : Refusal) → eqb (refusalNumber r) 0 ≡ false
+numbered r = ne-eqb (refusalNumber r) 0 (some-number r)

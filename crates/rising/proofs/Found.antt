@@ -14,33 +14,16 @@ use borrow.Author.Tests.{lt-ltb, le-ltb, eqb-false, ltb-true, ltb-false}
 use Rattle.words.specs.Padded.{padded, zeros}
 use Rattle.words.proofs.Padded.{padded-none}
 use Rattle.refusal.specs.declared.Refusal.{Refusal}
-use Rattle.refusal.specs.declared.Refusal.the-variants.{FileTooLarge, UnknownKind, TableOutside, LentTooShort, StringOutside, NumberOutside, MethodIndex, CodeOutside, BadQuery, LengthOverflow, NotAscii, RegionOutside, StringIndex, BadRequest, LentTable}
+use Rattle.refusal.specs.declared.Refusal.the-variants.{LentTooShort}
 use Rattle.refusal.specs.declared.Answer.{Answer}
 use Rattle.refusal.specs.declared.Answer.the-variants.{Done, Refused}
 use Rattle.refusal.specs.Refusals.{refusalNumber, answerNumber, answerCount}
+use Rattle.refusal.proofs.Numbers.{numbered}
 use Rattle.rising.specs.Rising.{SetOf}
 use Rattle.rising.specs.declared.Insertion.{Insertion}
 use Rattle.rising.specs.declared.Insertion.the-variants.{Held, Full}
 use Rattle.rising.specs.Found.{Found, fitted, Whole, Matched, all, over}
 use Rattle.rising.proofs.Sets.{Listed, set-empty, set-same, set-unique}
-
--- no refusal has the number 0
-pub numbered : (why : Refusal) → eqb (refusalNumber why) 0 ≡ false
-numbered FileTooLarge = refl
-numbered UnknownKind = refl
-numbered TableOutside = refl
-numbered LentTooShort = refl
-numbered StringOutside = refl
-numbered NumberOutside = refl
-numbered MethodIndex = refl
-numbered CodeOutside = refl
-numbered BadQuery = refl
-numbered LengthOverflow = refl
-numbered NotAscii = refl
-numbered RegionOutside = refl
-numbered StringIndex = refl
-numbered BadRequest = refl
-numbered LentTable = refl
 
 no-words : (xs : List ℕ) → length xs ≡ 0 → xs ≡ []
 no-words [] e = refl

@@ -21,7 +21,8 @@ use Rattle.rising.specs.declared.Insertion.{Insertion}
 use Rattle.rising.specs.declared.Insertion.the-variants.{Held, Full}
 use Rattle.rising.proofs.Sets.{in-none, in-here, in-cons, in-cases, in-drop-here, in-drop-later, in-drop-cases, in-drop-none, Listed, set-none, set-same, set-union, set-of-list}
 use Rattle.rising.proofs.Collected.{Collected, collect-union, union-full, held-length, held-front}
-use Rattle.rising.proofs.Found.{numbered, matched-same}
+use Rattle.refusal.proofs.Numbers.{numbered}
+use Rattle.rising.proofs.Found.{matched-same}
 use Rattle.string_search.specs.Search.{Owns, searchFault}
 use Rattle.string_search.proofs.Listing.{owners-listed}
 use Rattle.string_search.proofs.Faults.{no-fault, fault-none}
