@@ -8,13 +8,15 @@ use mathlib.Core.Bool.{Bool, true, false, _&&_, cond}
 use mathlib.Core.Option.{Option, none, some}
 use mathlib.Core.List.{List, [], _∷_}
 use mathlib.Core.Logic.{_⊎_, inl, inr, ⊎-elim}
-use Prim.Native.Nat.{ℕ, zero, suc, _+_, _-_, _%_, _≤_, _<_}
+use Prim.Native.Nat.{ℕ, zero, suc, _+_, _-_, _%_, _≤_, _<_, min}
 use native.Mathlib.Numerals.{add-one}
 use native.Mathlib.Omega.{arith}
 use lib.Dec.{eqb, ltb, leb}
 use lib.ListN.{length, getD, set}
 use lib.Seq.{sets}
 use borrow.Author.Tests.{eq-eqb, ne-eqb, lt-ltb, lt-leb, le-leb}
+use Rattle.memchr.specs.First.{Is, Either, First}
+use Rattle.memchr.proofs.Firsts.{onward}
 use Rattle.dalvik.specs.Numbers.{byte, le16, le32}
 use Rattle.dalvik.specs.Instructions.{Kind}
 use Rattle.dalvik.specs.Instructions.Kind.{strings, types, fields, methods}
@@ -67,13 +69,9 @@ width-any types op = ⊎-elim (λ e. inl e) (λ e. inr (omega arith)) (width-eve
 width-any fields op = ⊎-elim (λ e. inl e) (λ e. inr (omega arith)) (width-even fields op refl)
 width-any methods op = ⊎-elim (λ e. inl e) (λ e. inr (omega arith)) (width-even methods op refl)
 
-pub string-none-low : (op : ℕ) → op < 0x1a → widthOf strings op ≡ 0
+string-none : (op : ℕ) → (Is 0x1a 0x1b op → ⊥) → widthOf strings op ≡ 0
 unfolding widthOf
-string-none-low op h = simp (ne-eqb op 0x1a (λ e. omega arith), ne-eqb op 0x1b (λ e. omega arith))
-
-pub string-none-high : (op : ℕ) → 0x1b < op → widthOf strings op ≡ 0
-unfolding widthOf
-string-none-high op h = simp (ne-eqb op 0x1a (λ e. omega arith), ne-eqb op 0x1b (λ e. omega arith))
+string-none op h = simp (ne-eqb op 0x1a (λ e. h (inl e)), ne-eqb op 0x1b (λ e. h (inr e)))
 
 -- ---- one start
 
@@ -226,16 +224,32 @@ module _ (s : List ℕ) (kind : Kind) (wanted : List ℕ) (from to : ℕ) (k : i
 
 -- ---- starts that are skipped
 
-pub skipped-none : (s : List ℕ) (to p : ℕ) → p ≤ to → Skipped s to p p
+skipped-none : (s : List ℕ) (to p : ℕ) → p ≤ to → Skipped s to p p
 skipped-none s to p h = record { onward = omega arith; inside = h; same = λ wanted from. refl }
 
-pub skipped-one : (s : List ℕ) (to p r : ℕ) → Skipped s to p r → r < to → widthOf strings (byte s r) ≡ 0 → Skipped s to p (r + 1)
+skipped-one : (s : List ℕ) (to p r : ℕ) → Skipped s to p r → r < to → widthOf strings (byte s r) ≡ 0 → Skipped s to p (r + 1)
 skipped-one s to p r k h e =
     record {
       onward = omega (arith, k .onward);
       inside = omega arith;
       same = λ wanted from. k .same wanted from ∙ next-none s strings wanted from to r h (named-other s strings wanted to r (sym e));
     }
+
+-- n starts, none of which opens a string instruction
+skipped-more : (s : List ℕ) (to p n : ℕ) → p + n ≤ to → ((k : ℕ) → p ≤ k → k < p + n → Is 0x1a 0x1b (byte s k) → ⊥) → Skipped s to p (p + n)
+skipped-more s to p zero h f =
+    let e : p ≡ p + zero = omega arith in
+    subst (Skipped s to p) e (skipped-none s to p (omega arith))
+skipped-more s to p (suc n) h f =
+    let e : p + n + 1 ≡ p + suc n = omega arith in
+    let k : Skipped s to p (p + n) = skipped-more s to p n (omega arith) (λ i a b. f i a (omega arith)) in
+    subst (Skipped s to p) e (skipped-one s to p (p + n) k (omega arith) (string-none (byte s (p + n)) (f (p + n) (omega arith) (omega arith))))
+
+pub skipped-first : (s : List ℕ) (to p r : ℕ) → p ≤ to → to ≤ length s → First (Either 0x1a 0x1b s) p (min to (length s)) r → Skipped s to p r
+skipped-first s to p r h l f =
+    let a : p ≤ r = onward (omega arith) f in
+    let e : p + (r - p) ≡ r = omega arith in
+    subst (Skipped s to p) e (skipped-more s to p (r - p) (omega (arith, f .inside)) (λ k b c. f .none-before k b (omega arith)))
 
 module _ (s wanted : List ℕ) (from to p r : ℕ) (h : p < to) (g : Skipped s to (p + 1) r) where
   abbrev string-hits : ℕ → List Hit

@@ -204,17 +204,7 @@ fn skip(s: &[u8], end: usize, start: usize) -> usize
     requires { ⌜ (start ≤ end) × (end ≤ length (now s)) ⌝ }
     ensures { λ r. ⌜ Skipped (now (s .entry)) end start r ⌝ }
 {
-    let mut at = start;
-    while at < end {
-        let op = s[at];
-        if 0x1a <= op {
-            if op <= 0x1b {
-                return at;
-            }
-        }
-        at += 1;
-    }
-    at
+    memchr::memchr2(0x1a, 0x1b, s, start, end)
 }
 
 // The string hits of a region, and how many there are: stored as far as there is room.

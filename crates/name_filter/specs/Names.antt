@@ -6,6 +6,7 @@ use mathlib.Core.Bool.{Bool, true, cond, not, _&&_, _||_}
 use mathlib.Core.List.{List, [], _∷_, map}
 use lib.ListN.{length, getD}
 use lib.Dec.{ltb, leb, eqb}
+use Rattle.memchr.specs.First.{Is}
 use Rattle.words.specs.Padded.{zeros}
 use Rattle.dalvik.specs.Numbers.{le32}
 use Rattle.dalvik.specs.Ids.{item, stringIdSize, string-data-off}
@@ -19,6 +20,10 @@ use Rattle.string_search.specs.Finds.{Occurs}
 -- ASCII case ignored: a letter A to Z counts as its small letter
 unfoldable pub lowerCase : ℕ → ℕ
 lowerCase b = cond (leb 0x41 b && leb b 0x5a) (b + 32) b
+
+-- r is the other letter that counts as the small letter b, if there is one
+pub record Capital (b r : ℕ) : Type 0 where
+  pub only : (x : ℕ) → lowerCase x ≡ b → Is b r x
 
 -- the query stands somewhere in the text, case ignored. The empty query stands in every text
 pub record HasName (text q : List ℕ) : Type 0 where

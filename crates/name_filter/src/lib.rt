@@ -13,11 +13,11 @@ ghost use Prim.Native.Nat.{_+_, _≤_, _<_};
 ghost use lib.ListN.{length};
 ghost use Rattle.dalvik.specs.Numbers.{le32};
 ghost use Rattle.dalvik.specs.Ids.{item as itemAt, string-data-off as dataOff};
-ghost use Rattle.string_data.specs.Text.{stringText};
+ghost use Rattle.string_data.specs.Text.{stringText, found};
 ghost use Rattle.rising.specs.Found.{Found, Matched};
 ghost use Rattle.string_search.specs.Finds.{Stands};
 ghost use Rattle.string_search.specs.Search.{Decides, faultNumber};
-ghost use Rattle.name_filter.specs.Names.{lowerCase, isAscii, HasName, textFault, firstFault, filterFault, Named, Known, Ready, Stepped};
+ghost use Rattle.name_filter.specs.Names.{lowerCase, Capital, isAscii, HasName, textFault, firstFault, filterFault, Named, Known, Ready, Stepped};
 
 // A letter A to Z becomes its small letter.
 fn lower(b: u8) -> u8
@@ -46,36 +46,56 @@ fn stands_at(text: &[u8], at: usize, query: &[u8]) -> bool
     true
 }
 
-// Whether the text contains the query, case ignored.
+// A letter a to z becomes its capital letter.
+fn upper(b: u8) -> u8
+    ensures { λ r. ⌜ Capital b r ⌝ }
+{
+    if 0x61 <= b {
+        if b <= 0x7a {
+            return b - 32;
+        }
+    }
+    b
+}
+
+// Whether the text contains the query, case ignored. It is looked for where its first letter stands, small or capital.
 fn matches_name(text: &[u8], query: &[u8]) -> bool
     ensures { λ r. ⌜ Decides (HasName (now (text .entry)) (now (query .entry))) r ⌝ }
 {
     let n = query.len();
+    if n == 0 {
+        return true;
+    }
     if text.len() < n {
         return false;
     }
-    let last = text.len() - n;
-    let mut at = 0;
-    while at <= last {
+    let end = text.len() - n + 1;
+    let a = lower(query[0]);
+    let b = upper(a);
+    let mut at = memchr::memchr2(a, b, text, 0, end);
+    while at < end {
         if stands_at(text, at, query) {
             return true;
         }
-        at += 1;
+        at = memchr::memchr2(a, b, text, at + 1, end);
     }
     false
 }
 
+// Whether every byte is below 128. No way out before the end: so the back end makes vector instructions of it.
 fn is_ascii(bytes: &[u8]) -> bool
     ensures { λ r. ⌜ r ≡ isAscii (now (bytes .entry)) ⌝ }
 {
+    let mut all: u8 = 0;
     let mut i = 0;
     while i < bytes.len() {
-        if 128 <= bytes[i] {
-            return false;
-        }
+        all = all | bytes[i];
         i += 1;
     }
-    true
+    if all < 128 {
+        return true;
+    }
+    false
 }
 
 fn word(file: &[u8], at: usize) -> u32
@@ -96,21 +116,29 @@ fn data_offset(file: &[u8], table: u32, index: u32) -> usize
     word(file, (table as usize) + 4 * (index as usize)) as usize
 }
 
-// What speaks against the string data at an offset: its bytes, or, where a query is asked for, a text that is not ASCII.
-fn text_fault(file: &[u8], offset: usize, asked: bool) -> Fault
-    ensures { λ r. ⌜ faultNumber r ≡ textFault (now (file .entry)) asked (stringText (now (file .entry)) offset) ⌝ }
+// What speaks against a text, where a query is asked for: that it is not ASCII.
+fn ascii_fault(file: &[u8], start: usize, len: usize, asked: bool) -> Fault
+    requires { ⌜ start + len < length (now file) ⌝ }
+    ensures { λ r. ⌜ faultNumber r ≡ textFault (now (file .entry)) asked (found start len) ⌝ }
 {
-    let found = string_data::string_data(file, offset);
-    if let StringText::Refused(why) = found {
-        return Fault::Refused(why);
-    }
     if !asked {
         return Fault::Nothing;
     }
-    if is_ascii(string_data::string_data_bytes(file, offset)) {
+    let end = start + len;
+    if is_ascii(&file[start..end]) {
         return Fault::Nothing;
     }
     Fault::Refused(Refusal::NotAscii)
+}
+
+// What speaks against the string data at an offset: its bytes, or its text.
+fn text_fault(file: &[u8], offset: usize, asked: bool) -> Fault
+    ensures { λ r. ⌜ faultNumber r ≡ textFault (now (file .entry)) asked (stringText (now (file .entry)) offset) ⌝ }
+{
+    match string_data::string_data(file, offset) {
+        StringText::Text { start, len } => ascii_fault(file, start, len, asked),
+        StringText::Refused(why) => Fault::Refused(why),
+    }
 }
 
 // The first fault among the given indices, in their order.

@@ -1,17 +1,20 @@
 -- The definitions of a string's bytes, a law for each way out of them: a length byte goes on, ends the length or refuses, and the
 -- text ends where the first zero stands.
 -- Assumes nothing.
-use Prim.Native.Nat.{ℕ, zero, suc, _+_, _-_, _<_, _≤_}
+use Prim.Native.Nat.{ℕ, zero, suc, _+_, _-_, _<_, _≤_, min}
 use native.Mathlib.Omega.{arith}
 use native.Mathlib.Numerals.{add-one}
 use native.Mathlib.Nat.{sub-self, zero-add}
 use mathlib.Core.Path.{_≡_, refl, sym, ap, subst, _∙_}
+use mathlib.Core.Logic.{inl, ⊎-elim}
 use mathlib.Core.Bool.{true, false, _&&_}
 use mathlib.Core.List.{List, [], _∷_}
 use lib.ListN.{length, drop, take, length-drop, drop-of-length-le}
 use lib.Dec.{eqb, ltb}
 use lib.Seq.{drop-cons}
 use borrow.Author.Tests.{lt-ltb, le-ltb, eq-eqb, ne-eqb}
+use Rattle.memchr.specs.First.{Either, First}
+use Rattle.memchr.proofs.Firsts.{split}
 use Rattle.words.proofs.Shared.{cond-elim}
 use Rattle.dalvik.specs.Numbers.{byte}
 use Rattle.refusal.specs.Refusals.{tooLarge}
@@ -20,7 +23,7 @@ use Rattle.string_data.specs.declared.Zero.{Zero}
 use Rattle.string_data.specs.declared.Zero.the-variants as z
 
 -- n bytes passed, and then what is found
-pub ahead : ℕ → Zero → Zero
+ahead : ℕ → Zero → Zero
 ahead n (z.Behind m) = z.Behind (n + m)
 ahead n z.Nothing = z.Nothing
 
@@ -35,10 +38,10 @@ ahead-further n (z.Behind m) = ap z.Behind (omega arith)
 ahead-further n z.Nothing = refl
 
 module _ (s : List ℕ) (p i : ℕ) where
-  pub zero-start : ahead (p - p) (firstZero s p) ≡ firstZero s p
+  zero-start : ahead (p - p) (firstZero s p) ≡ firstZero s p
   zero-start = rw sub-self (ahead-zero _)
 
-  pub zero-off : (r : Zero) → length s ≤ i → ahead (i - p) (firstZero s i) ≡ r → z.Nothing ≡ r
+  zero-off : (r : Zero) → length s ≤ i → ahead (i - p) (firstZero s i) ≡ r → z.Nothing ≡ r
   unfolding zeroOf firstZero ahead
   zero-off r h e = simp (drop-of-length-le s h) at e
 
@@ -50,14 +53,40 @@ module _ (s : List ℕ) (p i : ℕ) where
   unfolding zeroOf firstZero
   zero-here h t = rw (drop-cons s i 0 h, eq-eqb _ _ t)
 
-  pub zero-again : (r : Zero) → i < length s → (byte s i ≡ 0 → ⊥) → p ≤ i → ahead (i - p) (firstZero s i) ≡ r → ahead (i + 1 - p) (firstZero s (i + 1)) ≡ r
+  zero-again : (r : Zero) → i < length s → (byte s i ≡ 0 → ⊥) → p ≤ i → ahead (i - p) (firstZero s i) ≡ r → ahead (i + 1 - p) (firstZero s (i + 1)) ≡ r
   zero-again r h t q e =
       let z : i + 1 - p ≡ i - p + 1 = omega arith in
       ap (λ (n : ℕ). ahead n (firstZero s (i + 1))) z ∙ (ahead-further (i - p) _ ∙ (ap (ahead (i - p)) (sym (zero-later h t)) ∙ e))
 
-  pub zero-stop : (r : Zero) → i < length s → byte s i ≡ 0 → p ≤ i → ahead (i - p) (firstZero s i) ≡ r → z.Behind (i - p) ≡ r
+  zero-stop : (r : Zero) → i < length s → byte s i ≡ 0 → p ≤ i → ahead (i - p) (firstZero s i) ≡ r → z.Behind (i - p) ≡ r
   unfolding ahead
   zero-stop r h t q e = ap z.Behind (omega arith) ∙ (ap (ahead (i - p)) (sym (zero-here h t)) ∙ e)
+
+-- the first zero from p on, where the search for it ends at r
+module _ (s : List ℕ) (p r : ℕ) (f : First (Either 0 0 s) p (min (length s) (length s)) r) where
+  passed : (n : ℕ) → p + n ≤ r → ahead (p + n - p) (firstZero s (p + n)) ≡ firstZero s p
+  passed zero h =
+      let e : p ≡ p + zero = omega arith in
+      subst (λ (i : ℕ). ahead (i - p) (firstZero s i) ≡ firstZero s p) e (zero-start s p p)
+  passed (suc n) h =
+      let e : p + n + 1 ≡ p + suc n = omega arith in
+      let l : r ≤ length s = omega (arith, f .inside) in
+      let q = zero-again s p (p + n) _ (omega arith) (λ z. f .none-before (p + n) (omega arith) (omega arith) (inl z)) (omega arith) (passed n (omega arith)) in
+      subst (λ (i : ℕ). ahead (i - p) (firstZero s i) ≡ firstZero s p) e q
+
+  up-to : p ≤ r → ahead (r - p) (firstZero s r) ≡ firstZero s p
+  up-to h =
+      let e : p + (r - p) ≡ r = omega arith in
+      subst (λ (i : ℕ). ahead (i - p) (firstZero s i) ≡ firstZero s p) e (passed (r - p) (omega arith))
+
+  pub zero-found : r < length s → z.Behind (r - p) ≡ firstZero s p
+  zero-found h =
+      let a : p ≤ r = f .behind (omega arith) in
+      zero-stop s p r _ h (⊎-elim (λ e. e) (λ e. e) (f .here (omega arith))) a (up-to a)
+
+  pub zero-nowhere : length s ≤ r → z.Nothing ≡ firstZero s p
+  zero-nowhere h =
+      ⊎-elim (λ (e : r < p). zero-off s p p _ (omega arith) (zero-start s p p)) (λ (e : p ≤ r). zero-off s p r _ h (up-to e)) (split r p)
 
 -- a zero that is found stands inside the file
 ZeroIn : ℕ → Zero → Type 0

@@ -20,12 +20,9 @@ pub enum StringText {
 pub fn first_zero(file: &[u8], from: usize) -> Zero
     ensures { λ r. ⌜ r ≡ firstZero (now (file .entry)) from ⌝ }
 {
-    let mut at = from;
-    while at < file.len() {
-        if file[at] == 0 {
-            return Zero::Behind(at - from);
-        }
-        at += 1;
+    let at = memchr::memchr(0, file, from, file.len());
+    if at < file.len() {
+        return Zero::Behind(at - from);
     }
     Zero::Nothing
 }

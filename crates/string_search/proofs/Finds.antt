@@ -1,14 +1,17 @@
 -- Finds. There is one first occurrence from a place on, so the finds from there are it and those from its end on.
+--     ahead-start, ahead-next, ahead-found, ahead-none   the search goes by places of the first and last byte
 --     find-occurs, find-behind, finds-apart        every find is an occurrence, and two share no byte
 --     owned-first, first-owned, later-owned        the owners from a find on
 -- Assumes nothing.
-use Prim.Native.Nat.{ℕ, _+_, _-_, _≤_, _<_}
+use Prim.Native.Nat.{ℕ, _+_, _-_, _≤_, _<_, min}
 use mathlib.Core.Path.{_≡_, ap, sym, subst, _∙_}
 use mathlib.Core.Logic.{_⊎_, inl, inr, ⊎-elim}
 use mathlib.Core.List.{List}
 use lib.ListN.{length, getD, take, drop, length-take, length-drop}
 use lib.Seq.{ext-getD, getD-take, getD-drop}
 use native.Mathlib.Omega.{arith}
+use Rattle.memchr.specs.First as Jump
+use Rattle.memchr.specs.First.{Both}
 use Rattle.rising.proofs.Sets.{below-or-not}
 use Rattle.string_search.specs.declared.Owner.the-variants.{Entry, Absent}
 use Rattle.string_search.specs.Finds.{Stands, Occurs, First, Find, leftmost, further}
@@ -23,6 +26,46 @@ stands-bytes s q p h f =
 
 pub byte-stands : (s q : List ℕ) (p k : ℕ) → k < length q → Stands s q p → getD s (p + k) 0 ≡ getD q k 0
 byte-stands s q p k h e = sym (getD-take (length q) (drop p s) k 0 h ∙ getD-drop p s k 0) ∙ ap (λ (l : List ℕ). getD l k 0) e
+
+-- ---- from one place of the query's first and last byte to the next
+abbrev pub Ends : List ℕ → List ℕ → ℕ → Type 0
+Ends s q = Both (getD q 0 0) (getD q (length q - 1) 0) (length q - 1) s
+
+-- an occurrence is such a place
+occurs-ends : {s q : List ℕ} {e p : ℕ} → 0 < length q → Occurs s q e p → Ends s q p
+occurs-ends {s} {q} {e} {p} h o =
+    let z : p + 0 ≡ p = omega arith in
+    (subst (λ (i : ℕ). getD s i 0 ≡ getD q 0 0) z (byte-stands s q p 0 h (o .bytes)), byte-stands s q p (length q - 1) (omega arith) (o .bytes))
+
+-- no occurrence stands from `from` up to p, which is before `from` only where no place is left
+pub record Ahead (s q : List ℕ) (e from p : ℕ) : Type 0 where
+  pub inside : p ≤ e - (length q - 1)
+  pub behind : p < e - (length q - 1) → from ≤ p
+  pub none-before : (k : ℕ) → from ≤ k → k < p → Occurs s q e k → ⊥
+
+module _ {s q : List ℕ} {e from : ℕ} (h : 0 < length q) (l : e ≤ length s) where
+  pub ahead-start : {p : ℕ} → Jump.First (Ends s q) from (min e (length s) - (length q - 1)) p → Ahead s q e from p
+  ahead-start f = record {
+    inside = omega (arith, f .inside);
+    behind = λ m. f .behind (omega arith);
+    none-before = λ k a b o. f .none-before k a b (occurs-ends h o);
+  }
+
+  pub ahead-next : {p r : ℕ} → Ahead s q e from p → p + (length q - 1) < e → (Stands s q p → ⊥) → Jump.First (Ends s q) (p + 1) (min e (length s) - (length q - 1)) r → Ahead s q e from r
+  ahead-next {p} {r} c m n f = record {
+    inside = omega (arith, f .inside);
+    behind = λ d. omega (arith, c .behind (omega arith), f .behind (omega arith));
+    none-before = λ k a b o.
+        ⊎-elim (λ (i : k < p). c .none-before k a i o)
+        (λ (i : p ≤ k).
+        ⊎-elim (λ (j : p < k). f .none-before k (omega arith) b (occurs-ends h o)) (λ (j : k ≤ p). n (let z : k ≡ p = omega arith in subst (Stands s q) z (o .bytes))) (below-or-not p k)) (below-or-not k p);
+  }
+
+  pub ahead-found : {p : ℕ} → Ahead s q e from p → p + (length q - 1) < e → Stands s q p → First s q e from p
+  ahead-found c m b = record { behind = c .behind (omega arith); occurs = record { inside = omega arith; bytes = b }; none-before = c .none-before }
+
+  pub ahead-none : {p : ℕ} → Ahead s q e from p → e ≤ p + (length q - 1) → (k : ℕ) → from ≤ k → Occurs s q e k → ⊥
+  ahead-none c m k a o = c .none-before k a (omega (arith, o .inside)) o
 
 module _ {s q : List ℕ} {e : ℕ} where
   first-unique : {from p r : ℕ} → First s q e from p → First s q e from r → p ≡ r

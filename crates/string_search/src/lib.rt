@@ -46,18 +46,20 @@ fn stands_at(file: &[u8], at: usize, query: &[u8]) -> bool
     true
 }
 
-// The first occurrence at or behind `from`, whole before `end`.
+// The first occurrence at or behind `from`, whole before `end`. It is looked for where the query's first and last byte stand.
 fn next_find(file: &[u8], from: usize, end: usize, query: &[u8]) -> Next
-    requires { ⌜ Searched (now file) (now query) end from ⌝ }
+    requires { ⌜ Searched (now file) (now query) end from × (0 < length (now query)) ⌝ }
     ensures { λ r. ⌜ NextFind (now (file .entry)) (now (query .entry)) end from r ⌝ }
 {
-    let n = query.len();
-    let mut at = from;
-    while at + n <= end {
+    let last = query.len() - 1;
+    let a = query[0];
+    let b = query[last];
+    let mut at = memchr::pair(a, b, last, file, from, end);
+    while at + last < end {
         if stands_at(file, at, query) {
             return Next::At(at);
         }
-        at += 1;
+        at = memchr::pair(a, b, last, file, at + 1, end);
     }
     Next::Nothing
 }

@@ -1,58 +1,86 @@
+-- `name_filter::matches_name` meets its contract: between two places of the first letter no name stands.
+-- Assumes nothing.
+use Rattle.name_filter.proofs.Names.{has-empty-of, name-passed, name-passed-on}
 use Rattle.name_filter.specs.Names.{lowerCase}
 use Rattle.string_search.specs.Finds.{Stands}
-use borrow.Author.Count.{below-more}
+use Rattle.memchr.proofs.Firsts.{onward}
 use lib.ListN.{length-map}
 use mathlib.Core.List.{map}
 use mathlib.Core.Path.{_≡_}
-use Prim.Native.Nat.{ℕ, _+_, _-_, _≤_, _<_}
+use Prim.Native.Nat.{ℕ, _-_, _≤_, _<_}
 use borrow.Author.Needs.{needs}
 use native.Mathlib.Omega.{arith}
 use Rattle.name_filter.proofs.matches_name.Statement.{statement}
 use Rattle.name_filter.proofs.matches_name.Tie as tie
 
 abbrev Inv-loop : tie.InvT-loop
-Inv-loop text query n last at₀ at = (at ≤ last + 1) × ((i : ℕ) → i < at → Stands (map lowerCase text) (map lowerCase query) i → ⊥)
+Inv-loop text query n end a b at₀ at = (at ≤ end) × ((k : ℕ) → k < at → Stands (map lowerCase text) (map lowerCase query) k → ⊥)
 
 abbrev μ-loop : tie.MeasureT-loop
-μ-loop text query n last at₀ at = last + 1 - at
+μ-loop text query n end a b at₀ at = end - at
 
 returns : tie.Need-returns Inv-loop μ-loop
 returns c =
     let a = c .before .before .before .args in
-    record { yes = λ e. absurd (let z : _≡_ {A = ℕ} 0 1 = cc in omega arith); no = λ e h. omega (arith, h .occurs .inside, length-map (a .query .now) lowerCase, c .if1 .taken) }
+    record { yes = λ e. has-empty-of (a .text .now) (a .query .now) (c .if1 .taken); no = λ e. absurd (let z : _≡_ {A = ℕ} 0 1 = cc in omega arith) }
 
-sub-last : tie.Need-sub-last Inv-loop μ-loop
-sub-last c = search needs
+returns-2 : tie.Need-returns-2 Inv-loop μ-loop
+returns-2 c =
+    let a = c .before .before .before .before .args in
+    record { yes = λ e. absurd (let z : _≡_ {A = ℕ} 0 1 = cc in omega arith); no = λ e h. omega (arith, h .occurs .inside, length-map (a .query .now) lowerCase, c .if2 .taken) }
+
+sub-end : tie.Need-sub-end Inv-loop μ-loop
+sub-end c = search needs
+
+add-end : tie.Need-add-end Inv-loop μ-loop
+add-end c = search needs
+
+shared-slice-read-lower : tie.Need-shared-slice-read-lower Inv-loop μ-loop
+shared-slice-read-lower c = search needs
+
+lower-requires : tie.Need-lower-requires Inv-loop μ-loop
+lower-requires c κs = search needs
+
+upper-requires : tie.Need-upper-requires Inv-loop μ-loop
+upper-requires c κs = search needs
+
+memchr2-requires : tie.Need-memchr2-requires Inv-loop μ-loop
+memchr2-requires c κs = search needs
 
 loop-holds : tie.Need-loop-holds Inv-loop μ-loop
-loop-holds c = (search needs, λ k h. absurd (omega arith))
+loop-holds c =
+    let a = c .before .before .before .before .before .before .before .before .args in
+    (omega (arith, c .memchr2 .ensures .inside), name-passed (a .text .now) (a .query .now) _ _ _ (omega arith) (c .before .before .lower .ensures) (c .before .upper .ensures) _ (c .memchr2 .ensures))
 
 stands-at-requires : tie.Need-stands-at-requires Inv-loop μ-loop
 stands-at-requires c κs = search needs
 
-returns-2 : tie.Need-returns-2 Inv-loop μ-loop
-returns-2 c =
-    let a = c .before .before .before .before .before .before .before .args in
+returns-3 : tie.Need-returns-3 Inv-loop μ-loop
+returns-3 c =
+    let a = c .before .before .before .before .before .before .before .before .before .before .before .before .args in
     record {
-      yes = λ e. record { at = c .before .before .before .loop .at; occurs = record { inside = omega (arith, length-map (a .query .now) lowerCase); bytes = c .before .stands-at .ensures .yes (c .if2 .taken) } };
+      yes = λ e. record { at = c .before .before .before .loop .at; occurs = record { inside = omega (arith, length-map (a .query .now) lowerCase); bytes = c .before .stands-at .ensures .yes (c .if3 .taken) } };
       no = λ e. absurd (let z : _≡_ {A = ℕ} 0 1 = cc in omega arith);
     }
 
-add-at : tie.Need-add-at Inv-loop μ-loop
-add-at c = search needs
+add-memchr2 : tie.Need-add-memchr2 Inv-loop μ-loop
+add-memchr2 c = search needs
+
+memchr2-requires-2 : tie.Need-memchr2-requires-2 Inv-loop μ-loop
+memchr2-requires-2 c κs = search needs
 
 loop-less : tie.Need-loop-less Inv-loop μ-loop
-loop-less c = search needs
+loop-less c = omega (arith, onward (omega arith) (c .memchr22 .ensures))
 
 loop-again : tie.Need-loop-again Inv-loop μ-loop
 loop-again c =
-    let a = c .before .before .before .before .before .before .before .args in
-    let k = c .before .before .before .loop in
-    (omega arith, below-more (λ (i : ℕ). Stands (map lowerCase (a .text .now)) (map lowerCase (a .query .now)) i → ⊥) (k .at) (k .inv .1) (c .before .stands-at .ensures .no (c .if2 .left)))
+    let a = c .before .before .before .before .before .before .before .before .before .before .before .before .before .args in
+    let k = c .before .before .before .before .loop in
+    (omega (arith, c .memchr22 .ensures .inside), name-passed-on (a .text .now) (a .query .now) _ _ _ (omega arith) (c .before .before .before .before .before .before .before .lower .ensures) (c .before .before .before .before .before .before .upper .ensures) _ _ (c .memchr22 .ensures) (k .inv .1) (c .before .before .stands-at .ensures .no (c .before .if3 .left)))
 
-returns-3 : tie.Need-returns-3 Inv-loop μ-loop
-returns-3 c =
-    let a = c .before .before .before .before .before .args in
+returns-4 : tie.Need-returns-4 Inv-loop μ-loop
+returns-4 c =
+    let a = c .before .before .before .before .before .before .before .before .before .before .args in
     let k = c .before .loop in
     record {
       yes = λ e. absurd (let z : _≡_ {A = ℕ} 0 1 = cc in omega arith);
@@ -66,11 +94,18 @@ matches-name-spec =
     Inv-loop
     μ-loop
     returns
-    sub-last
+    returns-2
+    sub-end
+    add-end
+    shared-slice-read-lower
+    lower-requires
+    upper-requires
+    memchr2-requires
     loop-holds
     stands-at-requires
-    returns-2
-    add-at
+    returns-3
+    add-memchr2
+    memchr2-requires-2
     loop-less
     loop-again
-    returns-3)
+    returns-4)

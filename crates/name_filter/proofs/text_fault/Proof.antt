@@ -1,9 +1,11 @@
-use Rattle.name_filter.proofs.Faults.{text-refused, text-any, text-ascii, text-not-ascii}
-use Rattle.name_filter.specs.Names.{isAscii}
+-- `name_filter::text_fault` meets its contract: a refusal is handed on, and a text that is found is inside the file.
+-- Assumes nothing.
+use Rattle.name_filter.proofs.Faults.{text-refused}
+use Rattle.name_filter.specs.Names.{textFault}
 use Rattle.string_data.specs.Text.{says}
+use Rattle.string_data.proofs.Laws.{inside}
 use Rattle.words.proofs.Shared.{met}
-use borrow.Author.Tests.{not-true, not-false}
-use mathlib.Core.Path.{ap, sym, _∙_}
+use mathlib.Core.Path.{ap, _∙_}
 use borrow.Author.Needs.{needs}
 use Rattle.name_filter.proofs.text_fault.Statement.{statement}
 use Rattle.name_filter.proofs.text_fault.Tie as tie
@@ -11,40 +13,30 @@ use Rattle.name_filter.proofs.text_fault.Tie as tie
 string-data-requires : tie.Need-string-data-requires
 string-data-requires c κs = search needs
 
-enum-known-found : tie.Need-enum-known-found
-enum-known-found c = search needs
+enum-known-start : tie.Need-enum-known-start
+enum-known-start c = search needs
+
+ascii-fault-requires : tie.Need-ascii-fault-requires
+ascii-fault-requires c κs = inside _ _ _ _ (met (ap says (c .before .start .given .1)) (c .before .before .before .string-data .ensures))
+
+enum-known-why : tie.Need-enum-known-why
+enum-known-why c = search needs
 
 returns : tie.Need-returns
-returns c = text-refused _ _ _ (c .before .found .given .0 .0) (sym (ap says (c .before .found .given .1)) ∙ c .before .before .before .string-data .ensures)
-
-enum-told : tie.Need-enum-told
-enum-told c = search needs
+returns c =
+    let a = c .before .before .before .before .before .before .args in
+    c .ascii-fault .ensures ∙ ap (textFault (a .file .now) (a .asked)) (met (ap says (c .before .before .start .given .1)) (c .before .before .before .before .string-data .ensures))
 
 returns-2 : tie.Need-returns-2
-returns-2 c = text-any _ _ _ _ _ (sym (ap says (c .before .enum-told .given .1)) ∙ c .before .before .before .string-data .ensures) (not-true _ (c .if1 .taken))
-
-string-data-bytes-requires : tie.Need-string-data-bytes-requires
-string-data-bytes-requires c κs = search needs
-
-is-ascii-requires : tie.Need-is-ascii-requires
-is-ascii-requires c κs = search needs
-
-returns-3 : tie.Need-returns-3
-returns-3 c = text-ascii _ _ _ _ _ (sym (ap says (c .before .before .before .before .enum-told .given .1)) ∙ c .before .before .before .before .before .before .string-data .ensures) (met (c .before .is-ascii .ensures ∙ ap isAscii (c .before .before .string-data-bytes .ensures)) (c .if2 .taken))
-
-returns-4 : tie.Need-returns-4
-returns-4 c = text-not-ascii _ _ _ _ _ (sym (ap says (c .before .before .before .before .enum-told .given .1)) ∙ c .before .before .before .before .before .before .string-data .ensures) (not-false _ (c .before .before .before .if1 .left)) (met (c .before .is-ascii .ensures ∙ ap isAscii (c .before .before .string-data-bytes .ensures)) (c .if2 .left))
+returns-2 c = text-refused _ _ _ (c .before .why .given .0 .0) (met (ap says (c .before .why .given .1)) (c .before .before .before .string-data .ensures))
 
 pub text-fault-spec : {M : Type 1} → statement M
 text-fault-spec =
     tie.close
     (tie.spec
     string-data-requires
-    enum-known-found
+    enum-known-start
+    ascii-fault-requires
+    enum-known-why
     returns
-    enum-told
-    returns-2
-    string-data-bytes-requires
-    is-ascii-requires
-    returns-3
-    returns-4)
+    returns-2)

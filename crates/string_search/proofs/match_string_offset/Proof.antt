@@ -21,7 +21,7 @@ loop-holds : tie.Need-loop-holds Inv-loop μ-loop
 loop-holds c = (collect-start _ (c .before .before .before .before .pre .clear), c .before .before .before .before .pre .area .forward)
 
 next-find-requires : tie.Need-next-find-requires Inv-loop μ-loop
-next-find-requires c κs = record { inside = c .before .before .before .before .before .pre .area .inside; small = c .before .before .before .before .before .pre .area .small; short = c .before .before .before .before .before .pre .area .short; forward = c .loop .inv .1 }
+next-find-requires c κs = (record { inside = c .before .before .before .before .before .pre .area .inside; small = c .before .before .before .before .before .pre .area .small; short = c .before .before .before .before .before .pre .area .short; forward = c .loop .inv .1 }, c .before .before .before .before .before .pre .asked)
 
 enum-known-at : tie.Need-enum-known-at Inv-loop μ-loop
 enum-known-at c = search needs

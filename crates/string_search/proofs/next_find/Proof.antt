@@ -1,21 +1,37 @@
-use Rattle.string_search.specs.Finds.{Stands, Occurs, at-place, no-more}
-use mathlib.Core.Path.{_≡_, refl, subst}
-use Rattle.rising.proofs.Sets.{below-or-not}
-use mathlib.Core.Logic.{⊎-elim}
-use Prim.Native.Nat.{ℕ, _+_, _-_, _≤_, _<_}
+-- `string_search::next_find` meets its contract: between two places of the query's first and last byte no occurrence stands.
+-- Assumes nothing.
+use Rattle.string_search.proofs.Finds.{Ahead, ahead-start, ahead-next, ahead-found, ahead-none}
+use Rattle.string_search.specs.Finds.{at-place, no-more}
+use Rattle.memchr.proofs.Firsts.{onward}
+use mathlib.Core.Path.{refl}
+use Prim.Native.Nat.{_-_}
 use borrow.Author.Needs.{needs}
 use native.Mathlib.Omega.{arith}
 use Rattle.string_search.proofs.next_find.Statement.{statement}
 use Rattle.string_search.proofs.next_find.Tie as tie
 
 abbrev Inv-loop : tie.InvT-loop
-Inv-loop file from end query n at₀ at = (from ≤ at) × (at ≤ end + 1) × ((k : ℕ) → from ≤ k → k < at → Occurs file query end k → ⊥)
+Inv-loop file from end query last a b at₀ at = Ahead file query end from at
 
 abbrev μ-loop : tie.MeasureT-loop
-μ-loop file from end query n at₀ at = end + 1 - at
+μ-loop file from end query last a b at₀ at = end - at
+
+sub-last : tie.Need-sub-last Inv-loop μ-loop
+sub-last c = search needs
+
+shared-slice-read-a : tie.Need-shared-slice-read-a Inv-loop μ-loop
+shared-slice-read-a c = search needs
+
+shared-slice-read-b : tie.Need-shared-slice-read-b Inv-loop μ-loop
+shared-slice-read-b c = search needs
+
+pair-requires : tie.Need-pair-requires Inv-loop μ-loop
+pair-requires c κs = search needs
 
 loop-holds : tie.Need-loop-holds Inv-loop μ-loop
-loop-holds c = (search needs, search needs, λ k l h. absurd (omega arith))
+loop-holds c =
+    let p = c .before .before .before .before .before .pre in
+    ahead-start (p .1) (p .0 .inside) (c .pair .ensures)
 
 add-loop : tie.Need-add-loop Inv-loop μ-loop
 add-loop c = search needs
@@ -25,25 +41,29 @@ stands-at-requires c κs = search needs
 
 returns : tie.Need-returns Inv-loop μ-loop
 returns c =
+    let p = c .before .before .before .before .before .before .before .before .before .pre in
     let k = c .before .before .before .loop in
-    at-place _ refl record { behind = k .inv .0; occurs = record { inside = c .before .before .loop-test .taken; bytes = c .before .stands-at .ensures .yes (c .if1 .taken) }; none-before = k .inv .2 }
+    at-place _ refl (ahead-found (p .1) (p .0 .inside) (k .inv) (c .before .before .loop-test .taken) (c .before .stands-at .ensures .yes (c .if1 .taken)))
 
-add-at : tie.Need-add-at Inv-loop μ-loop
-add-at c = search needs
+add-pair : tie.Need-add-pair Inv-loop μ-loop
+add-pair c = search needs
+
+pair-requires-2 : tie.Need-pair-requires-2 Inv-loop μ-loop
+pair-requires-2 c κs = search needs
 
 loop-less : tie.Need-loop-less Inv-loop μ-loop
-loop-less c = search needs
+loop-less c = omega (arith, onward (omega arith) (c .pair2 .ensures))
 
 loop-again : tie.Need-loop-again Inv-loop μ-loop
 loop-again c =
-    let a = c .before .before .before .before .before .before .args in
-    let k = c .before .before .before .loop in
-    (omega arith, omega arith, λ i l h o. ⊎-elim (λ m. k .inv .2 i l m o) (λ m. let e : i ≡ k .at = omega arith in c .before .stands-at .ensures .no (c .if1 .left) (subst (λ (j : ℕ). Stands (a .file .now) (a .query .now) j) e (o .bytes))) (below-or-not i (k .at)))
+    let p = c .before .before .before .before .before .before .before .before .before .before .pre in
+    let k = c .before .before .before .before .loop in
+    ahead-next (p .1) (p .0 .inside) (k .inv) (c .before .before .before .loop-test .taken) (c .before .before .stands-at .ensures .no (c .before .if1 .left)) (c .pair2 .ensures)
 
 returns-2 : tie.Need-returns-2 Inv-loop μ-loop
 returns-2 c =
-    let k = c .before .loop in
-    no-more refl (λ i l o. ⊎-elim (λ m. k .inv .2 i l m o) (λ m. omega (arith, o .inside)) (below-or-not i (k .at)))
+    let p = c .before .before .before .before .before .before .before .pre in
+    no-more refl (ahead-none (p .1) (p .0 .inside) (c .before .loop .inv) (c .loop-test .left))
 
 pub next-find-spec : {M : Type 1} → statement M
 next-find-spec =
@@ -51,11 +71,16 @@ next-find-spec =
     (tie.spec
     Inv-loop
     μ-loop
+    sub-last
+    shared-slice-read-a
+    shared-slice-read-b
+    pair-requires
     loop-holds
     add-loop
     stands-at-requires
     returns
-    add-at
+    add-pair
+    pair-requires-2
     loop-less
     loop-again
     returns-2)
