@@ -1,0 +1,44 @@
+-- `ringlinden::ringlinden_code_table` meets its contract: the numbers are those of the operation's answer, and the header record is that of the words lent.
+-- Assumes nothing.
+use borrow.Author.Needs.{needs}
+use Rattle.ringlinden.proofs.ringlinden_code_table.Statement.{statement}
+use Rattle.ringlinden.proofs.ringlinden_code_table.Tie as tie
+
+header-of-requires : tie.Need-header-of-requires
+header-of-requires c κs = search needs
+
+parse-requires : tie.Need-parse-requires
+parse-requires c κs = search needs
+
+tell-code-table-requires : tie.Need-tell-code-table-requires
+tell-code-table-requires c κs = search needs
+
+same-length : tie.Need-same-length
+same-length c = search needs
+
+same-length-2 : tie.Need-same-length-2
+same-length-2 c = search needs
+
+same-length-3 : tie.Need-same-length-3
+same-length-3 c = search needs
+
+same-length-4 : tie.Need-same-length-4
+same-length-4 c = search needs
+
+returns : tie.Need-returns
+returns c =
+    let q = c .before .before .before .before .before .before .before .before .before .before .before .before .before .before in
+    record { answer = _; handed = c .tell-code-table .ensures; right = rw (q .before .before .before .before .before .header-of .ensures) at (q .parse .ensures) }
+
+pub ringlinden-code-table-spec : {M : Type 1} → statement M
+ringlinden-code-table-spec =
+    tie.close
+    (tie.spec
+    header-of-requires
+    parse-requires
+    tell-code-table-requires
+    same-length
+    same-length-2
+    same-length-3
+    same-length-4
+    returns)

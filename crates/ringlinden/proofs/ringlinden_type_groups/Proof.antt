@@ -1,0 +1,36 @@
+-- `ringlinden::ringlinden_type_groups` meets its contract: the numbers are those of the operation's answer, and the header record is that of the words lent.
+-- Assumes nothing.
+use borrow.Author.Needs.{needs}
+use Rattle.ringlinden.proofs.ringlinden_type_groups.Statement.{statement}
+use Rattle.ringlinden.proofs.ringlinden_type_groups.Tie as tie
+
+header-of-requires : tie.Need-header-of-requires
+header-of-requires c κs = search needs
+
+build-map-requires : tie.Need-build-map-requires
+build-map-requires c κs = search needs
+
+tell-requires : tie.Need-tell-requires
+tell-requires c κs = search needs
+
+same-length : tie.Need-same-length
+same-length c = search needs
+
+same-length-2 : tie.Need-same-length-2
+same-length-2 c = search needs
+
+returns : tie.Need-returns
+returns c =
+    let q = c .before .before .before .before .before .before in
+    record { answer = _; handed = c .tell .ensures; right = rw (q .before .before .before .header-of .ensures) at (q .build-map .ensures) }
+
+pub ringlinden-type-groups-spec : {M : Type 1} → statement M
+ringlinden-type-groups-spec =
+    tie.close
+    (tie.spec
+    header-of-requires
+    build-map-requires
+    tell-requires
+    same-length
+    same-length-2
+    returns)

@@ -1,0 +1,205 @@
+/*
+ * Ringlinden, as C and C++ call it: `rt staticlib ringlinden` writes target/staticlib/libringlinden.a. Nothing else is needed to link
+ * but memset.
+ *
+ *     cc -std=c99 -I include uses.c target/staticlib/libringlinden.a
+ *
+ * Each function returns 0, or the number of a refusal (RINGLINDEN_..), the first that applies in the order given with the function. It is
+ * proved to be safe, to end, and to answer as its definition says, for all values of all arguments. What C has to see to, since
+ * nothing here can:
+ *
+ *   - a pointer and the length behind it, in elements, are memory that is there: aligned, not null even where the length is 0, and
+ *     of at most PTRDIFF_MAX bytes. Bytes and words that are only read have to be set;
+ *   - what is written (the lent outputs and the numbers) overlaps nothing else that is passed.
+ *
+ * Of every function:
+ *
+ *   - the lent outputs may hold anything beforehand. On success they hold the result, and zeros behind it up to their length;
+ *     on a refusal only zeros;
+ *   - the numbers behind `size_t *` are set by every call, on a refusal to 0;
+ *   - a file of more than 16,777,216 bytes is refused first (1), where there is a file;
+ *   - `header` is 13 words, offset and size of the tables of strings, types, prototypes, fields, methods and classes, and the map's
+ *     offset. It is taken as given, and need not be the file's own.
+ *
+ * For example, the methods that use the string with index 7, from a file and its header:
+ *
+ *     size_t from, to, hits, n, i;
+ *     uint32_t wanted[1] = { 7 };
+ *     if (ringlinden_find(file, file_len, header, RINGLINDEN_STRING, wanted, 1, starts, STARTS, triples, TRIPLES, slots, SLOTS,
+ *                         shares, SHARES, offs, HITS, marks, HITS, further, STARTS, answers, HITS, &from, &to, &hits) == 0)
+ *         for (i = 0; i < hits; i++)
+ *             if (answers[i] != 0 && ringlinden_list_slot(shares, SHARES, answers[i], methods, METHODS, &n) == 0)
+ *                 show(offs[i], methods, n);
+ */
+#ifndef RINGLINDEN_H
+#define RINGLINDEN_H
+
+#include <stddef.h>
+#include <stdint.h>
+
+#ifdef __cplusplus
+extern "C" {
+#endif
+
+/* The refusals. */
+enum {
+    RINGLINDEN_DONE = 0,
+    RINGLINDEN_FILE_TOO_LARGE = 1,  /* the file has more than 16,777,216 bytes */
+    RINGLINDEN_UNKNOWN_KIND = 2,    /* the kind asked for is none of the four */
+    RINGLINDEN_TABLE_OUTSIDE = 3,   /* a table of ids or a class definition passes the file's end */
+    RINGLINDEN_LENT_TOO_SHORT = 4,  /* a lent output is shorter than the result needs */
+    RINGLINDEN_STRING_OUTSIDE = 5,  /* string data begin outside the file, or have no final zero */
+    RINGLINDEN_NUMBER_OUTSIDE = 6,  /* a number runs off the file */
+    RINGLINDEN_METHOD_INDEX = 7,    /* a method index passes 32 bits, or one with code is not below the method count or 2^24 */
+    RINGLINDEN_CODE_OUTSIDE = 8,    /* a code item is not inside the file, or has no instruction */
+    RINGLINDEN_BAD_QUERY = 9,       /* a query is empty, too long or not ASCII */
+    RINGLINDEN_LENGTH_OVERFLOW = 10, /* a string's length passes 32 bits */
+    RINGLINDEN_NOT_ASCII = 11,      /* a string that a query is held against is not ASCII */
+    RINGLINDEN_REGION_OUTSIDE = 12, /* a region is backward or passes the file's end */
+    RINGLINDEN_STRING_INDEX = 13,   /* a string index is not below the string count */
+    RINGLINDEN_LENT_TABLE = 15      /* a lent table does not hold what is needed of it */
+};
+
+/* The kinds of index that an instruction names. */
+enum { RINGLINDEN_STRING = 1, RINGLINDEN_TYPE = 2, RINGLINDEN_FIELD = 3, RINGLINDEN_METHOD = 4 };
+
+/* ---- groups ---- */
+
+/*
+ * The type ids, grouped by the string index of their descriptor. str_offsets: strings.size + 1 words, where each group begins and the
+ * last ends; type_idxs: *count words, the groups one behind another, at most types.size. A type whose string index is not below
+ * strings.size is in no group. Refusals: 1, 3, 4.
+ */
+uint32_t ringlinden_type_groups(const uint8_t *file, size_t file_len, const uint32_t header[13],
+                                uint32_t *str_offsets, size_t str_offsets_len, uint32_t *type_idxs, size_t type_idxs_len,
+                                size_t *count);
+
+/*
+ * The method ids, grouped by class and by name. clz_offsets: types.size + 1 words; clz_mids: *clz_count words, at most methods.size;
+ * name_offsets: strings.size + 1 words; name_mids: *name_count words, at most methods.size. Refusals: 1, 3, 4.
+ */
+uint32_t ringlinden_method_groups(const uint8_t *file, size_t file_len, const uint32_t header[13],
+                                  uint32_t *clz_offsets, size_t clz_offsets_len, uint32_t *clz_mids, size_t clz_mids_len,
+                                  uint32_t *name_offsets, size_t name_offsets_len, uint32_t *name_mids, size_t name_mids_len,
+                                  size_t *clz_count, size_t *name_count);
+
+/*
+ * The group of a key: ids[*start .. *start + *count], inside ids. A key outside the offsets, or offsets that don't fit, give 0 and 0.
+ * Always returns 0.
+ */
+uint32_t ringlinden_group(const uint32_t *offsets, size_t offsets_len, const uint32_t *ids, size_t ids_len, uint32_t key,
+                          size_t *start, size_t *count);
+
+/* ---- strings ---- */
+
+/*
+ * The string map. keys: strings.size words, *count of them, each (data offset * 2^32 + string index), rising; the text area is
+ * file[*start .. *end]. No strings succeed, with 0 for all three. Refusals: 1, 3, 4, 5.
+ */
+uint32_t ringlinden_string_map(const uint8_t *file, size_t file_len, const uint32_t header[13], uint64_t *keys, size_t keys_len,
+                               size_t *count, size_t *start, size_t *end);
+
+/*
+ * The bytes of the string whose data stand at an offset of the file: file[*start .. *start + *count], behind the length bytes and before
+ * the zero. Refusals: 1; 6; 10, a fifth length byte above 0x0f; 5.
+ */
+uint32_t ringlinden_string_bytes(const uint8_t *file, size_t file_len, size_t offset, size_t *start, size_t *count);
+
+/*
+ * The searches take the keys and the area that ringlinden_string_map gave. Their results rise, without repeats. An area backward or
+ * past the file's end finds nothing.
+ */
+
+/*
+ * The indices of the strings in which a find of the query begins. out: *count words. Refusals: 1; 9, the query is empty or has more than
+ * 255 bytes; 15, the keys don't rise strictly, or one has the index 2^32 - 1; 4.
+ */
+uint32_t ringlinden_string_search(const uint8_t *file, size_t file_len, const uint64_t *keys, size_t keys_len,
+                                  size_t start, size_t end, const uint8_t *query, size_t query_len,
+                                  uint32_t *out, size_t out_len, size_t *count);
+
+/*
+ * The types whose string is found. str_offsets and type_idxs as ringlinden_type_groups gave them. strings: as many words as strings are
+ * found, zero afterwards in every case; out: *count words. The empty query finds nothing. Refusals: 1; 9, more than 255 bytes; 15; 4.
+ */
+uint32_t ringlinden_type_search(const uint8_t *file, size_t file_len, const uint64_t *keys, size_t keys_len,
+                                size_t start, size_t end, const uint8_t *query, size_t query_len,
+                                const uint32_t *str_offsets, size_t str_offsets_len, const uint32_t *type_idxs, size_t type_idxs_len,
+                                uint32_t *strings, size_t strings_len, uint32_t *out, size_t out_len, size_t *count);
+
+/*
+ * The methods whose class and whose name is found; an empty query asks nothing of its part, and two empty ones find nothing. strings and
+ * types: as many words as strings and types are found, zero afterwards in every case; out: *count words. Refusals: 1; 9, either query
+ * has more than 255 bytes; 15; 3, the method ids; 4.
+ */
+uint32_t ringlinden_method_search(const uint8_t *file, size_t file_len, const uint32_t header[13],
+                                  const uint64_t *keys, size_t keys_len, size_t start, size_t end,
+                                  const uint8_t *class_query, size_t class_query_len, const uint8_t *name_query, size_t name_query_len,
+                                  const uint32_t *str_offsets, size_t str_offsets_len, const uint32_t *type_idxs, size_t type_idxs_len,
+                                  uint32_t *strings, size_t strings_len, uint32_t *types, size_t types_len,
+                                  uint32_t *out, size_t out_len, size_t *count);
+
+/*
+ * Those of the given string indices whose string contains the query, ASCII case ignored, rising and without repeats; the file's own count
+ * and table of strings are used. out: *count words. Refusals: 1; 3, the file has less than 0x70 bytes or its table passes its end; 9, more
+ * than 255 bytes or not ASCII; then, in the order of the given indices, 13, 6, 10, 5, 11; 4.
+ */
+uint32_t ringlinden_name_filter(const uint8_t *file, size_t file_len, const uint32_t *given, size_t given_len,
+                                const uint8_t *query, size_t query_len, uint32_t *out, size_t out_len, size_t *count);
+
+/* ---- code ---- */
+
+/*
+ * The code table. starts: a word for each method, where its code begins, 0 without code; triples: three words for each of the *codes codes
+ * found, first 16-byte block, last, and method; slots: *slot_count words, one for each block of the region, 0, or method + 1, or
+ * 2^31 + number of a share; shares: *share_count words, three for each share; the region is file[*region_start .. *region_end],
+ * whole blocks, so that it may end behind the file. Refusals: 1; 4, fewer start words than methods; then as the class data are
+ * read 3, 6, 7, 8; 4, one of the others is too short.
+ */
+uint32_t ringlinden_code_table(const uint8_t *file, size_t file_len, const uint32_t header[13],
+                               uint32_t *starts, size_t starts_len, uint32_t *triples, size_t triples_len,
+                               uint32_t *slots, size_t slots_len, uint32_t *shares, size_t shares_len,
+                               size_t *region_start, size_t *region_end, size_t *codes, size_t *slot_count, size_t *share_count);
+
+/*
+ * The places from start up to end that look like an instruction of the kind with a wanted index, rising, and beside each the index there.
+ * wanted: in any order, repeats allowed. offs and marks: *count words each. Refusals: 1; 2; 12; 4.
+ */
+uint32_t ringlinden_scan(const uint8_t *file, size_t file_len, uint32_t start, uint32_t end, uint32_t kind,
+                         const uint32_t *wanted, size_t wanted_len, uint32_t *offs, size_t offs_len, uint32_t *marks, size_t marks_len,
+                         size_t *count);
+
+/*
+ * For each entry, an offset in the file, the slot word of its block where a walk of the code lands on it, else 0. base: the region's first
+ * block, *region_start / 16; slots, starts and shares as ringlinden_code_table gave them; entries: ringlinden_scan's offsets.
+ * further: a word for each start word, zero afterwards in every case; answers: *count words, one for each entry. Refusals: 1; 4; 15,
+ * a share that is needed is outside the shares, or a first method that is needed has no start word.
+ */
+uint32_t ringlinden_locate(const uint8_t *file, size_t file_len, uint32_t base, const uint32_t *slots, size_t slots_len,
+                           const uint32_t *starts, size_t starts_len, const uint32_t *shares, size_t shares_len,
+                           const uint32_t *entries, size_t entries_len, uint32_t *further, size_t further_len,
+                           uint32_t *answers, size_t answers_len, size_t *count);
+
+/*
+ * The methods of a slot word: *count words, none for the word 0. Refusals: 15, a share that is needed is outside the shares, or
+ * names one that is not an earlier one; 4.
+ */
+uint32_t ringlinden_list_slot(const uint32_t *shares, size_t shares_len, uint32_t slot, uint32_t *methods, size_t methods_len,
+                              size_t *count);
+
+/*
+ * Code table, scan of its region and locate in one. starts, triples, slots and shares as of ringlinden_code_table, offs and marks as of
+ * ringlinden_scan, further and answers as of ringlinden_locate; *hits words of offs, marks and answers are the result. Refusals: those of
+ * the three, in their order. For a file as published no instruction is missing: crates/findrefs has the statement.
+ */
+uint32_t ringlinden_find(const uint8_t *file, size_t file_len, const uint32_t header[13], uint32_t kind,
+                         const uint32_t *wanted, size_t wanted_len, uint32_t *starts, size_t starts_len,
+                         uint32_t *triples, size_t triples_len, uint32_t *slots, size_t slots_len, uint32_t *shares, size_t shares_len,
+                         uint32_t *offs, size_t offs_len, uint32_t *marks, size_t marks_len, uint32_t *further, size_t further_len,
+                         uint32_t *answers, size_t answers_len, size_t *region_start, size_t *region_end, size_t *hits);
+
+#ifdef __cplusplus
+}
+#endif
+
+#endif
