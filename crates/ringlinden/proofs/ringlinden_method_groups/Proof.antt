@@ -1,5 +1,5 @@
--- `ringlinden::ringlinden_method_groups` meets its contract: the numbers are those of the operation's answer, and the header record is that of the words lent.
--- Assumes nothing.
+-- `ringlinden::ringlinden_method_groups` meets its contract: the numbers are those of the operation's answer, and the
+-- header record is that of the words lent. Assumes nothing.
 use borrow.Author.Needs.{needs}
 use Rattle.ringlinden.proofs.ringlinden_method_groups.Statement.{statement}
 use Rattle.ringlinden.proofs.ringlinden_method_groups.Tie as tie
