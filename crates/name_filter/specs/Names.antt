@@ -1,6 +1,6 @@
 -- What the name filter keeps: document 01, string_locator.rs (`locate_name_indices`, `matches_name`) and "Name filter".
 -- Assumes nothing.
-use Prim.Native.Nat.{ℕ, _+_, _≤_, _<_}
+use Prim.Native.Nat.{ℕ, _+_, _-_, _≤_, _<_}
 use mathlib.Core.Path.{_≡_}
 use mathlib.Core.Bool.{Bool, true, cond, not, _&&_, _||_}
 use mathlib.Core.List.{List, [], _∷_, map}
@@ -75,6 +75,17 @@ Known s table given = (k : ℕ) → k < length given → item table stringIdSize
 pub record Ready (s : List ℕ) (table : ℕ) (given out : List ℕ) : Type 0 where
   pub known : Known s table given
   pub clear : out ≡ zeros (length out)
+
+-- a table remembers of some numbers, by one more than each, that P holds of them
+pub record Memo (P : ℕ → Type 0) (l : List ℕ) : Type 0 where
+  pub long : length l ≡ 4096
+  pub holds : (k : ℕ) → 0 < getD l k 0 → P (getD l k 0 - 1)
+
+abbrev pub Good : List ℕ → ℕ → Bool → ℕ → Type 0
+Good s table asked i = 0 ≡ textFault s asked (stringText s (string-data-off s table i))
+
+abbrev pub Lacks : List ℕ → ℕ → List ℕ → ℕ → Type 0
+Lacks s table q i = HasName (nameText s table i) q → ⊥
 
 -- one given index: it is inserted if its text has the name
 pub data Stepped (s : List ℕ) (table : ℕ) (q : List ℕ) (i n : ℕ) (before after : List ℕ) (r : Insertion) : Type 0 where

@@ -17,7 +17,7 @@ ghost use Rattle.string_data.specs.Text.{stringText, found};
 ghost use Rattle.rising.specs.Found.{Found, Matched};
 ghost use Rattle.string_search.specs.Finds.{Stands};
 ghost use Rattle.string_search.specs.Search.{Decides, faultNumber};
-ghost use Rattle.name_filter.specs.Names.{lowerCase, Capital, isAscii, HasName, textFault, firstFault, filterFault, Named, Known, Ready, Stepped};
+ghost use Rattle.name_filter.specs.Names.{lowerCase, Capital, isAscii, HasName, textFault, firstFault, filterFault, Named, Known, Ready, Stepped, Memo, Good, Lacks};
 
 // A letter A to Z becomes its small letter.
 fn lower(b: u8) -> u8
@@ -141,18 +141,37 @@ fn text_fault(file: &[u8], offset: usize, asked: bool) -> Fault
     }
 }
 
+// The same for a string index, once for most: `good` remembers indices of texts that nothing speaks against.
+fn name_fault(file: &[u8], table: u32, index: u32, asked: bool, good: &mut [usize; 4096]) -> Fault
+    requires { ⌜ (itemAt table 4 (index + 1) ≤ length (now file)) × Memo (Good (now file) table asked) (now good) ⌝ }
+    ensures { λ r. ⌜ (faultNumber r ≡ textFault (now (file .entry)) asked (stringText (now (file .entry)) (dataOff (now (file .entry)) table index))) × Memo (Good (now (file .entry)) table asked) (now (good .exit)) ⌝ }
+{
+    let key = index as usize + 1;
+    let k = (index % 4096) as usize;
+    if good[k] == key {
+        return Fault::Nothing;
+    }
+    let fault = text_fault(file, data_offset(file, table, index), asked);
+    if let Fault::Refused(why) = fault {
+        return Fault::Refused(why);
+    }
+    good[k] = key;
+    Fault::Nothing
+}
+
 // The first fault among the given indices, in their order.
 fn first_fault(file: &[u8], count: u32, table: u32, asked: bool, given: &[u32]) -> Fault
     requires { ⌜ itemAt table 4 count ≤ length (now file) ⌝ }
     ensures { λ r. ⌜ faultNumber r ≡ firstFault (now (file .entry)) count table asked (now (given .entry)) ⌝ }
 {
+    let mut good = [0usize; 4096];
     let mut i = 0;
     while i < given.len() {
         let index = given[i];
         if count <= index {
             return Fault::Refused(Refusal::StringIndex);
         }
-        let fault = text_fault(file, data_offset(file, table, index), asked);
+        let fault = name_fault(file, table, index, asked, &mut good);
         if let Fault::Refused(why) = fault {
             return Fault::Refused(why);
         }
@@ -186,7 +205,7 @@ fn filter_fault(file: &[u8], given: &[u32], query: &[u8]) -> Fault
     Fault::Refused(Refusal::BadQuery)
 }
 
-// One given index: it joins the n words held if its text has the name.
+// One given index: it joins the n words held if its text has the name. `missed` remembers indices of texts that lack it.
 fn name_step(
     file: &[u8],
     table: u32,
@@ -194,14 +213,21 @@ fn name_step(
     query: &[u8],
     out: &mut [u32],
     n: usize,
+    missed: &mut [usize; 4096],
 ) -> Insertion
-    requires { ⌜ itemAt table 4 (index + 1) ≤ length (now file) ⌝ }
-    ensures { λ r. ⌜ Stepped (now (file .entry)) table (now (query .entry)) index n (now (out .entry)) (now (out .exit)) r ⌝ }
+    requires { ⌜ (itemAt table 4 (index + 1) ≤ length (now file)) × Memo (Lacks (now file) table (now query)) (now missed) ⌝ }
+    ensures { λ r. ⌜ Stepped (now (file .entry)) table (now (query .entry)) index n (now (out .entry)) (now (out .exit)) r × Memo (Lacks (now (file .entry)) table (now (query .entry))) (now (missed .exit)) ⌝ }
 {
+    let key = index as usize + 1;
+    let k = (index % 4096) as usize;
+    if missed[k] == key {
+        return Insertion::Held(n);
+    }
     let offset = data_offset(file, table, index);
     if matches_name(string_data::string_data_bytes(file, offset), query) {
         return rising::insert(out, n, index);
     }
+    missed[k] = key;
     Insertion::Held(n)
 }
 
@@ -210,10 +236,11 @@ fn collect(file: &[u8], table: u32, given: &[u32], query: &[u8], out: &mut [u32]
     requires { ⌜ Ready (now file) table (now given) (now out) ⌝ }
     ensures { λ r. ⌜ Matched (Named (now (file .entry)) table (now (query .entry)) (now (given .entry))) (now (out .entry)) (now (out .exit)) r ⌝ }
 {
+    let mut missed = [0usize; 4096];
     let mut i = 0;
     let mut n = 0;
     while i < given.len() {
-        let Insertion::Held(m) = name_step(file, table, given[i], query, out, n) else {
+        let Insertion::Held(m) = name_step(file, table, given[i], query, out, n, &mut missed) else {
             return Insertion::Full;
         };
         n = m;

@@ -1,23 +1,23 @@
 use Rattle.name_filter.proofs.Faults.{fault-end, fault-index, fault-text, fault-next}
-use Rattle.name_filter.specs.Names.{textFault, firstFault}
+use Rattle.name_filter.specs.Names.{firstFault, Memo, Good}
+use Rattle.name_filter.proofs.Memos.{memo-none}
 use Rattle.string_search.specs.Search.{faultNumber}
-use Rattle.string_data.specs.Text.{stringText}
 use lib.ListN.{length, drop}
 use mathlib.Core.Path.{_≡_, refl, ap, sym, _∙_}
-use Prim.Native.Nat.{ℕ, _-_, _≤_}
+use Prim.Native.Nat.{_-_, _≤_}
 use borrow.Author.Needs.{needs}
 use native.Mathlib.Omega.{arith}
 use Rattle.name_filter.proofs.first_fault.Statement.{statement}
 use Rattle.name_filter.proofs.first_fault.Tie as tie
 
 abbrev Inv-loop : tie.InvT-loop
-Inv-loop file count table asked given i₀ i = (firstFault file count table asked (drop i given) ≡ firstFault file count table asked given) × (i ≤ length given)
+Inv-loop file count table asked given good₀ i₀ good i = (firstFault file count table asked (drop i given) ≡ firstFault file count table asked given) × (i ≤ length given) × Memo (Good file table asked) good
 
 abbrev μ-loop : tie.MeasureT-loop
-μ-loop file count table asked given i₀ i = length given - i
+μ-loop file count table asked given good₀ i₀ good i = length given - i
 
 loop-holds : tie.Need-loop-holds Inv-loop μ-loop
-loop-holds c = (refl, search needs)
+loop-holds c = (refl, search needs, memo-none _)
 
 mul-index : tie.Need-mul-index Inv-loop μ-loop
 mul-index c = search needs
@@ -28,19 +28,17 @@ shared-slice-read-index c = search needs
 returns : tie.Need-returns Inv-loop μ-loop
 returns c = fault-index _ _ _ _ _ _ (c .before .before .loop-test .taken) (c .if1 .taken) ∙ c .before .before .before .loop .inv .0
 
-data-offset-requires : tie.Need-data-offset-requires Inv-loop μ-loop
-data-offset-requires c κs = omega (arith, c .if1 .left, c .before .before .before .before .before .before .pre)
-
-text-fault-requires : tie.Need-text-fault-requires Inv-loop μ-loop
-text-fault-requires c κs = search needs
+name-fault-requires : tie.Need-name-fault-requires Inv-loop μ-loop
+name-fault-requires c κs = (omega (arith, c .before .if1 .left, c .before .before .before .before .before .before .before .pre), c .before .before .before .before .loop .inv .2)
 
 enum-known-fault : tie.Need-enum-known-fault Inv-loop μ-loop
 enum-known-fault c = search needs
 
 returns-2 : tie.Need-returns-2 Inv-loop μ-loop
 returns-2 c =
-    let a = c .before .before .before .before .before .before .before .before .before .before .before .args in
-    fault-text _ _ _ _ _ _ (c .before .before .before .before .before .before .before .loop-test .taken) (c .before .before .before .before .before .if1 .left) (c .before .fault .given .0 .0) (sym (ap faultNumber (c .before .fault .given .1)) ∙ c .before .before .before .text-fault .ensures ∙ ap (λ (o : ℕ). textFault (a .file .now) (a .asked) (stringText (a .file .now) o)) (c .before .before .before .before .data-offset .ensures)) ∙ c .before .before .before .before .before .before .before .before .loop .inv .0
+    fault-text _ _ _ _ _ _ (c .before .before .before .before .before .before .before .loop-test .taken) (c .before .before .before .before .before .if1 .left) (c .before .fault .given .0 .0)
+    (sym (ap faultNumber (c .before .fault .given .1)) ∙ c .before .before .before .name-fault .ensures .0)
+    ∙ c .before .before .before .before .before .before .before .before .loop .inv .0
 
 enum-told : tie.Need-enum-told Inv-loop μ-loop
 enum-told c = search needs
@@ -53,8 +51,8 @@ loop-less c = search needs
 
 loop-again : tie.Need-loop-again Inv-loop μ-loop
 loop-again c =
-    let a = c .before .before .before .before .before .before .before .before .before .before .args in
-    (sym (fault-next _ _ _ _ _ _ (c .before .before .before .before .before .before .loop-test .taken) (c .before .before .before .before .if1 .left) (sym (ap faultNumber (c .enum-told .given .1)) ∙ c .before .before .text-fault .ensures ∙ ap (λ (o : ℕ). textFault (a .file .now) (a .asked) (stringText (a .file .now) o)) (c .before .before .before .data-offset .ensures))) ∙ c .before .before .before .before .before .before .before .loop .inv .0, omega arith)
+    let g = sym (ap faultNumber (c .enum-told .given .1)) ∙ c .before .before .name-fault .ensures .0 in
+    (sym (fault-next _ _ _ _ _ _ (c .before .before .before .before .before .before .loop-test .taken) (c .before .before .before .before .if1 .left) g) ∙ c .before .before .before .before .before .before .before .loop .inv .0, omega arith, c .before .before .name-fault .ensures .1)
 
 returns-3 : tie.Need-returns-3 Inv-loop μ-loop
 returns-3 c = fault-end _ _ _ _ _ _ (c .loop-test .left) ∙ c .before .loop .inv .0
@@ -69,8 +67,7 @@ first-fault-spec =
     mul-index
     shared-slice-read-index
     returns
-    data-offset-requires
-    text-fault-requires
+    name-fault-requires
     enum-known-fault
     returns-2
     enum-told
