@@ -1,7 +1,8 @@
 -- Laws of the first place of a kind.
 --     split     a number is below another or not
 --     First     onward, first-unique, first-none
---     Passed    none-yet, pass-more
+--     Passed    none-yet, pass-more, pass-one, passed-first
+--     Lane      lane-is, lane-not
 --     Tested    none-tested, one-tested
 --     Lanes     no-lane, one-lane, all-lanes
 --     block-first    blocks that are passed, and the place in the next one
@@ -61,6 +62,12 @@ module _ {P : ℕ → Type 0} {from to : ℕ} where
         (split k r);
   }
 
+  pub pass-one : {r : ℕ} → Passed P from to r → r < to → (P r → ⊥) → Passed P from to (r + 1)
+  pass-one {r} p h o = pass-more 1 p (omega arith) (λ k l i. o (let e : r + k ≡ r = omega arith in subst P e i))
+
+  pub passed-first : {r : ℕ} → Passed P from to r → (r < to → P r) → First P from to r
+  passed-first p h = record { inside = p .inside; behind = λ _. p .onward; here = h; none-before = p .none-before }
+
   -- .. and then the first place of a part of the rest, which is all of it or has one
   part-first : {p q r : ℕ} → Passed P from to p → p ≤ q → q ≤ to → First P p q r → (q ≡ to) ⊎ (r < q) → First P from to r
   part-first {p} {q} {r} c l h f o = record {
@@ -81,6 +88,13 @@ module _ {P : ℕ → Type 0} {from to : ℕ} where
       ⊎-elim (λ (m : r < p + n). inr m)
       (λ (m : p + n ≤ r). ⊎-elim (λ (h : to < p + 16). inl (omega (arith, c .passed .inside))) (λ (h : p + 16 ≤ to). absurd (f .none-before (p + o .at) (omega arith) (omega (arith, o .below)) (o .is))) (split to (p + 16)))
       (split r (p + n))) (c .next))
+
+-- what a test of one place says
+pub lane-is : {C : Type 0} {r : ℕ} → Lane 1 0 C r → (r ≡ 0 → ⊥) → C
+lane-is l n = ⊎-elim (λ c. c .1) (λ c. absurd (n (c .0))) (l .cases)
+
+pub lane-not : {C : Type 0} {r : ℕ} → Lane 1 0 C r → r ≡ 0 → C → ⊥
+lane-not l e y = ⊎-elim (λ c. omega (arith, c .0)) (λ c. c .1 y) (l .cases)
 
 -- ---- a block, by its places below i
 module _ {P : ℕ → Type 0} {p : ℕ} where

@@ -85,6 +85,21 @@ fn first_either(a: u8, b: u8, s: &[u8], at: usize, n: u8) -> usize
     at + first as usize
 }
 
+// The same from `from` up to `to`, byte by byte: the quicker way where there is less than a block.
+fn plain_either(a: u8, b: u8, s: &[u8], from: usize, to: usize) -> usize
+    requires { ⌜ (from ≤ to) × (to ≤ length (now s)) ⌝ }
+    ensures { λ r. ⌜ First (Either a b (now (s .entry))) from to r ⌝ }
+{
+    let mut at = from;
+    while at < to {
+        if either(1, 0, s[at], a, b) != 0 {
+            return at;
+        }
+        at += 1;
+    }
+    at
+}
+
 // The first place from `from` on whose byte is a or b, before `end` and the slice's end; the lesser of these two where there is none.
 pub fn memchr2(a: u8, b: u8, s: &[u8], from: usize, end: usize) -> usize
     ensures { λ r. ⌜ First (Either a b (now (s .entry))) from (min end (length (now (s .entry)))) r ⌝ }
@@ -92,6 +107,9 @@ pub fn memchr2(a: u8, b: u8, s: &[u8], from: usize, end: usize) -> usize
     let to = lesser(end, s.len());
     if to <= from {
         return to;
+    }
+    if to - from < 16 {
+        return plain_either(a, b, s, from, to);
     }
     let at = skip_either(a, b, s, from, to);
     first_either(a, b, s, at, block_of(to - at))
