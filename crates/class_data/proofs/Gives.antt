@@ -15,16 +15,19 @@ use Rattle.dalvik.specs.CodeItem.{Code, start}
 use Rattle.refusal.specs.Refusals.{tooLarge}
 use Rattle.refusal.specs.declared.Refusal.{Refusal}
 use Rattle.refusal.specs.declared.Refusal.the-variants.{FileTooLarge, LentTooShort}
+use Rattle.refusal.specs.declared.Answer.{Answer}
 use Rattle.refusal.specs.declared.Answer.the-variants.{Done, Refused}
 use Rattle.tinydex.specs.declared.DexHeader.{DexHeader}
-use Rattle.class_data.specs.Codes.{Walk, codesOf}
-use Rattle.class_data.specs.Codes.Walk.{refused, found}
-use Rattle.class_data.specs.Stored.{triplesOf, startsFrom, startsOf}
+use Rattle.class_data_item.specs.Walk.{Walk}
+use Rattle.class_data_item.specs.Walk.Walk.{refused, found}
+use Rattle.class_data_item.proofs.Within.{CodeIn, Each}
+use Rattle.class_data.specs.Codes.{codesOf}
+use Rattle.class_data_parse.specs.Stored.{triplesOf, startsFrom, startsOf}
 use Rattle.class_data.specs.Found.{codesIn, GivesCodes}
-use Rattle.class_data.specs.Steps.{stored}
-use Rattle.class_data.specs.Steps.Left.{refusal, left}
-use Rattle.class_data.proofs.Kept.{left-by, stored-refused}
-use Rattle.class_data.proofs.Within.{CodeIn, Each, length-triples}
+use Rattle.class_data.specs.Steps.{FitCodes}
+use Rattle.class_data_parse.specs.Steps.{stored}
+use Rattle.class_data_parse.specs.Steps.Left.{refusal, left}
+use Rattle.class_data_parse.proofs.Kept.{length-triples, left-by, stored-refused}
 use Rattle.class_data.proofs.Found.{codes-sound}
 
 -- ---- stores into cleared words
@@ -76,9 +79,10 @@ module _ (s : List ℕ) (h : DexHeader) (nt nz : ℕ) where
             let x = left-by 0 ts zs (codesOf s h) i n ts′ zs′ e in
             codes-full (x .codes) i (x .walk) (omega arith)
 
-        pub gives-all : ts ≡ zeros nt → zs ≡ zeros nz → n ≤ nt / 3 → (ts₀ zs₀ : List ℕ) → nt ≡ length ts₀ → nz ≡ length zs₀
-            → GivesCodes (h .methods .size) (codesIn s h nt nz) (Done n) ts₀ ts′ zs₀ zs′
-        gives-all f g q ts₀ zs₀ l l′ =
+        pub fit-all : ts ≡ zeros nt → zs ≡ zeros nz → n ≤ nt / 3 → (ts₀ zs₀ : List ℕ) → nt ≡ length ts₀ → nz ≡ length zs₀
+            → FitCodes (h .methods .size) (codesIn s h nt nz) (Done n) ts₀ ts′ zs₀ zs′
+        unfolding FitCodes
+        fit-all f g q ts₀ zs₀ l l′ =
             let x = left-by 0 ts zs (codesOf s h) i n ts′ zs′ e in
             let cs : List Code = x .codes in
             let m : ℕ = h .methods .size in
@@ -98,6 +102,29 @@ gives-refused m v r ts ts′ zs zs′ e a b =
     subst (λ (x : Walk). GivesCodes m x (Refused r) ts ts′ zs zs′) e
     (record { answer = refl; triples = a ∙ sym (padded-none (length ts)); starts = b ∙ sym (padded-none (length zs)) })
 
+-- ---- before the words of a refusal are cleared
+module _ (m : ℕ) (v : Walk) (ts ts′ zs zs′ : List ℕ) where
+  pub fit-refused : (r : Refusal) → refused r ≡ v → FitCodes m v (Refused r) ts ts′ zs zs′
+  unfolding FitCodes
+  fit-refused r e = e
+
+  module _ (a : Answer) (q : FitCodes m v a ts ts′ zs zs′) where
+    pub done-told : (n : ℕ) → a ≡ Done n → GivesCodes m v (Done n) ts ts′ zs zs′
+    unfolding FitCodes
+    done-told n e = subst (λ (x : Answer). FitCodes m v x ts ts′ zs zs′) e q
+
+    pub refused-told : (r : Refusal) → a ≡ Refused r → refused r ≡ v
+    unfolding FitCodes
+    refused-told r e = subst (λ (x : Answer). FitCodes m v x ts ts′ zs zs′) e q
+
 -- a slice cleared again, as long as it came
 pub cleared-again : (us xs ts : List ℕ) → us ≡ zeros (length xs) → length xs ≡ length ts → us ≡ zeros (length ts)
 cleared-again us xs ts e l = e ∙ ap zeros l
+
+-- the triples that fit, by the slice's length before the walk
+module _ (a b n : ℕ) (e : a ≡ b) (m : ℕ) (f : b ≡ m) where
+  pub third-over : a / 3 < n → m / 3 < n
+  third-over q = omega arith
+
+  pub third-holds : n ≤ a / 3 → n ≤ m / 3
+  third-holds q = omega arith

@@ -1,76 +1,26 @@
--- The class data items: one of them by its sizes, fields and methods, many of them one behind another or by the class definitions. Each
--- loop's step goes on from what the step before it left.
+-- The class data items, one behind another or by the class definitions: each loop's step goes on from what the step before it left.
 -- Assumes nothing.
-use Prim.Native.Nat.{ℕ, zero, suc, _+_, _*_, _-_, _<_, _≤_}
+use Prim.Native.Nat.{ℕ, zero, suc, _+_, _*_, _-_, _^_, _<_, _≤_}
 use native.Mathlib.Omega.{arith}
 use native.Mathlib.Numerals.{sub-one}
 use mathlib.Core.Path.{_≡_, ap, subst, _∙_}
 use mathlib.Core.List.{List}
-use mathlib.Core.Option.{Option, none, some}
 use lib.ListN.{length}
 use borrow.Author.Tests.{le-leb, lt-leb, eq-eqb, ne-eqb}
 use Rattle.dalvik.specs.Numbers.{le32}
 use Rattle.refusal.specs.declared.Refusal.{Refusal}
-use Rattle.refusal.specs.declared.Refusal.the-variants.{NumberOutside, TableOutside}
-use Rattle.class_data.specs.Codes.{Walk, andOn, skipped, withSkipped, methodsFrom, classDataAt, successive, defined}
-use Rattle.class_data.specs.Codes.Walk.{refused, found}
-use Rattle.class_data.specs.Steps.{place, SizesAt, DefinedOn, OneDefined, Left, stored, seen}
-use Rattle.class_data.specs.Steps.Left.{refusal, left}
-use Rattle.class_data.specs.declared.Offset.{Offset}
-use Rattle.class_data.specs.declared.Offset.the-variants as o
-use Rattle.class_data.specs.declared.Walked.{Walked}
-use Rattle.class_data.specs.declared.Walked.the-variants as w
-use Rattle.class_data.proofs.Laws.{Word}
-use Rattle.class_data.proofs.Kept.{stored-on, stored-none, stored-refused, refused-stored, left-by}
-use Rattle.class_data.proofs.Within.{methods-in, class-in}
-
--- ---- an offset taken apart
-module _ (r : Offset) (d : Option ℕ) (e : place r ≡ d) where
-  pub place-some : (i : ℕ) → r ≡ o.At i → some i ≡ d
-  unfolding place
-  place-some i q = rw q at e
-
-  pub place-none : r ≡ o.Nowhere → none ≡ d
-  unfolding place
-  place-none q = rw q at e
-
--- ---- a class data item
--- where a walk over methods ends, and how many codes it may have found
-pub record Onto (s : List ℕ) (i k e k′ : ℕ) : Type 0 where
-  pub inside : e ≤ length s
-  pub few : k′ + i ≤ k + e
-
-pub methods-onto : (s : List ℕ) (m n i j k : ℕ) (ts zs : List ℕ) (e k′ : ℕ) (ts′ zs′ : List ℕ) → i ≤ length s
-    → left e k′ ts′ zs′ ≡ stored k ts zs (methodsFrom n s m i j) → Onto s i k e k′
-methods-onto s m n i j k ts zs e k′ ts′ zs′ q h =
-    let b = left-by k ts zs (methodsFrom n s m i j) e k′ ts′ zs′ h in
-    let x = methods-in s m n i j (b .codes) e q (b .walk) in
-    record { inside = x .inside; few = omega arith }
-
-module _ (s : List ℕ) (m i n d v p : ℕ) (z : SizesAt s i n d v p) where
-  pub class-skip : none ≡ skipped n s p → refused NumberOutside ≡ classDataAt s m i
-  class-skip e = ap (λ (r : Option ℕ). withSkipped r (λ e. andOn (methodsFrom d s m e 0) (λ f. methodsFrom v s m f 0))) e ∙ z .rest m
-
-  module _ (q : ℕ) (e : some q ≡ skipped n s p) (k : ℕ) (ts zs : List ℕ) where
-    class-rest : andOn (methodsFrom d s m q 0) (λ f. methodsFrom v s m f 0) ≡ classDataAt s m i
-    class-rest = ap (λ (r : Option ℕ). withSkipped r (λ e. andOn (methodsFrom d s m e 0) (λ f. methodsFrom v s m f 0))) e ∙ z .rest m
-
-    pub class-no : (r : Refusal) → refusal r ≡ stored k ts zs (methodsFrom d s m q 0) → refusal r ≡ stored k ts zs (classDataAt s m i)
-    class-no r h =
-        refused-stored k ts zs (classDataAt s m i) r
-        (ap (λ (x : Walk). andOn x (λ f. methodsFrom v s m f 0)) (stored-refused k ts zs (methodsFrom d s m q 0) r h) ∙ class-rest)
-
-    pub class-at : (a k′ : ℕ) (ts′ zs′ : List ℕ) (x : Left) → left a k′ ts′ zs′ ≡ stored k ts zs (methodsFrom d s m q 0)
-        → x ≡ stored k′ ts′ zs′ (methodsFrom v s m a 0) → x ≡ stored k ts zs (classDataAt s m i)
-    class-at a k′ ts′ zs′ x h g =
-        g ∙ stored-on k ts zs (methodsFrom d s m q 0) (λ f. methodsFrom v s m f 0) a k′ ts′ zs′ h ∙ ap (stored k ts zs) class-rest
-
-pub class-few : (s : List ℕ) (m i k : ℕ) (ts zs : List ℕ) (e k′ : ℕ) (ts′ zs′ : List ℕ)
-    → left e k′ ts′ zs′ ≡ stored k ts zs (classDataAt s m i) → k′ ≤ k + length s
-class-few s m i k ts zs e k′ ts′ zs′ h =
-    let b = left-by k ts zs (classDataAt s m i) e k′ ts′ zs′ h in
-    let x = class-in s m i (b .codes) e (b .walk) in
-    omega arith
+use Rattle.refusal.specs.declared.Refusal.the-variants.{TableOutside}
+use Rattle.class_data_item.specs.Walk.{Walk, andOn, classDataAt}
+use Rattle.class_data_item.specs.Walk.Walk.{refused}
+use Rattle.class_data_item.proofs.Laws.{Word}
+use Rattle.class_data.specs.Codes.{successive, defined}
+use Rattle.class_data.specs.Steps.{DefinedOn, OneDefined}
+use Rattle.class_data_parse.specs.Steps.{ItemPre, Left, stored, seen}
+use Rattle.class_data_parse.specs.Steps.Left.{refusal, left}
+use Rattle.class_data_parse.specs.declared.Walked.{Walked}
+use Rattle.class_data_parse.specs.declared.Walked.the-variants as w
+use Rattle.class_data_parse.proofs.Kept.{stored-on, stored-none, stored-refused, refused-stored}
+use Rattle.class_data_parse.proofs.Item.{class-few}
 
 -- ---- the items of a map entry
 module _ (s : List ℕ) (m i k : ℕ) (ts zs : List ℕ) (d : Left) where
@@ -102,6 +52,18 @@ pub record ByMap (s : List ℕ) (m n i : ℕ) (ts₀ zs₀ ts zs : List ℕ) (le
   pub few : k ≤ 16777216 * (n - left)
   pub long : length zs ≡ length zs₀
   pub wide : length ts ≡ length ts₀
+
+-- so many codes are counted, since an item has fewer than the file has bytes
+pub bymap-few : (s : List ℕ) (m n i : ℕ) (ts₀ zs₀ ts zs : List ℕ) (togo at k : ℕ) → ByMap s m n i ts₀ zs₀ ts zs togo at k → length s ≤ 16777216 → n < 2 ^ 32 → ItemPre s k
+bymap-few s m n i ts₀ zs₀ ts zs togo at k x small q = record { small = small; few = omega (arith, x .few) }
+
+-- a turn of the loop: the words keep their lengths, and an item has fewer codes than the file has bytes
+module _ (s : List ℕ) (m n i : ℕ) (ts₀ zs₀ ts zs : List ℕ) (togo at k : ℕ) (x : ByMap s m n i ts₀ zs₀ ts zs togo at k) (small : length s ≤ 16777216) (z : 0 < togo) where
+  pub bymap-again : (e k′ : ℕ) (ts′ zs′ : List ℕ) → left e k′ ts′ zs′ ≡ stored k ts zs (classDataAt s m at) → length zs′ ≡ length zs → length ts′ ≡ length ts
+      → ByMap s m n i ts₀ zs₀ ts′ zs′ (togo - 1) e k′
+  bymap-again e k′ ts′ zs′ h l w =
+      let f = class-few s m at k ts zs e k′ ts′ zs′ h in
+      record { rest = successive-again s m at k ts zs _ togo e k′ ts′ zs′ z h (x .rest); most = omega arith; few = omega arith; long = l ∙ x .long; wide = w ∙ x .wide }
 
 -- ---- a class definition
 module _ (s : List ℕ) (m i k : ℕ) (ts zs : List ℕ) where
@@ -169,3 +131,9 @@ pub record ByDef (s : List ℕ) (m n i : ℕ) (ts₀ zs₀ ts zs : List ℕ) (at
   pub few : k ≤ 16777216 * (n - left)
   pub long : length zs ≡ length zs₀
   pub wide : length ts ≡ length ts₀
+
+module _ (s : List ℕ) (m n i : ℕ) (ts₀ zs₀ ts zs : List ℕ) (at togo k : ℕ) (x : ByDef s m n i ts₀ zs₀ ts zs at togo k) (small : length s ≤ 16777216) (z : 0 < togo) where
+  pub bydef-again : (k′ : ℕ) (ts′ zs′ : List ℕ) → DefinedOn s m at k k′ ts zs ts′ zs′ → length zs′ ≡ length zs → length ts′ ≡ length ts
+      → ByDef s m n i ts₀ zs₀ ts′ zs′ (at + 32) (togo - 1) k′
+  bydef-again k′ ts′ zs′ g l w =
+      record { rest = defined-again s m at k ts zs _ togo k′ ts′ zs′ z g (x .rest); most = omega arith; place = omega arith; few = omega arith; long = l ∙ x .long; wide = w ∙ x .wide }

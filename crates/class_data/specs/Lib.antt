@@ -1,4 +1,3 @@
 pub mod Codes
-pub mod Stored
 pub mod Found
 pub mod Steps

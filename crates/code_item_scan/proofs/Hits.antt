@@ -1,7 +1,7 @@
 -- What one start tells and what is left behind it: a start that names no wanted index, or is not tried, drops out of the hits.
 --     named      named-other, named-short, named-unwanted, named-wanted, named-even
 --     hitsFrom   next-hit, next-none, next-even-hit, next-even-none, no-hits
---     Going      going-start, going-hit, going-same, going-end
+--     Going      going-start, string-on, even-on, going-end
 -- Assumes nothing.
 use mathlib.Core.Path.{_≡_, refl, ap, sym, _∙_, subst}
 use mathlib.Core.Bool.{Bool, true, false, _&&_, cond}
@@ -12,7 +12,7 @@ use Prim.Native.Nat.{ℕ, zero, suc, _+_, _-_, _%_, _≤_, _<_, min}
 use native.Mathlib.Numerals.{add-one}
 use native.Mathlib.Omega.{arith}
 use lib.Dec.{eqb, ltb, leb}
-use lib.ListN.{length, getD, set}
+use lib.ListN.{length, getD, set, length-set}
 use lib.Seq.{sets}
 use borrow.Author.Tests.{eq-eqb, ne-eqb, lt-ltb, lt-leb, le-leb}
 use Rattle.memchr.specs.First.{Is, Either, First}
@@ -20,39 +20,14 @@ use Rattle.memchr.proofs.Firsts.{onward}
 use Rattle.dalvik.specs.Numbers.{byte, le16, le32}
 use Rattle.dalvik.specs.Instructions.{Kind}
 use Rattle.dalvik.specs.Instructions.Kind.{strings, types, fields, methods}
-use Rattle.opcodes.specs.Length.{within}
-use Rattle.code_item_scan.specs.Scan.{Hit, widthOf, indexAt, isTried, isIn, isHit, hitsIn, hitsOf, offs, marks, typeOpcodes, fieldOpcodes, methodOpcodes}
-use Rattle.code_item_scan.specs.Steps.{isStrings, namedBy, named, hitsFrom, TableOf, Read16, EvenHit, Skipped, SkippedEven, Collected}
+use Rattle.index_width.specs.Kinds.{isStrings}
+use Rattle.index_width.specs.Width.{widthOf}
+use Rattle.index_width.proofs.Widths.{width-even, width-any}
+use Rattle.code_item_scan.specs.Scan.{Hit, indexAt, isTried, isIn, isHit, hitsIn, hitsOf, offs, marks}
+use Rattle.code_item_scan.specs.Steps.{namedBy, named, hitsFrom, TableOf, Read16, EvenHit, Skipped, SkippedEven, Stored, a-hit, nothing, Collected}
 use Rattle.code_item_scan.proofs.Wanted.{bit-zero, bit-one}
 
--- ---- the widths
-
-none-or-two : (b : Bool) → (_≡_ {A = ℕ} (cond b 2 0) 0) ⊎ (_≡_ {A = ℕ} (cond b 2 0) 2)
-none-or-two true = inr refl
-none-or-two false = inl refl
-
--- kinds other than strings have indices of two bytes
-pub width-even : (kind : Kind) (op : ℕ) → isStrings kind ≡ false → (widthOf kind op ≡ 0) ⊎ (widthOf kind op ≡ 2)
-unfolding widthOf
-width-even strings op e = let z : _≡_ {A = ℕ} 0 1 = cc in absurd (omega arith)
-width-even types op e = none-or-two (within op typeOpcodes)
-width-even fields op e = none-or-two (within op fieldOpcodes)
-width-even methods op e = none-or-two (within op methodOpcodes)
-
-abbrev two-or-four : Bool → Bool → ℕ
-two-or-four a b = cond a 2 (cond b 4 0)
-
-none-two-or-four : (a b : Bool) → (two-or-four a b ≡ 0) ⊎ ((two-or-four a b ≡ 2) ⊎ (two-or-four a b ≡ 4))
-none-two-or-four true b = inr (inl refl)
-none-two-or-four false true = inr (inr refl)
-none-two-or-four false false = inl refl
-
-pub width-string : (op : ℕ) → (widthOf strings op ≡ 0) ⊎ ((widthOf strings op ≡ 2) ⊎ (widthOf strings op ≡ 4))
-unfolding widthOf
-width-string op = none-two-or-four (eqb op 0x1a) (eqb op 0x1b)
-
-pub width-small : (op : ℕ) → widthOf strings op ≤ 4
-width-small op = ⊎-elim (λ e. omega arith) (λ f. ⊎-elim (λ e. omega arith) (λ e. omega arith) f) (width-string op)
+-- ---- the index
 
 pub index-four : (s : List ℕ) (i w : ℕ) → w ≡ 4 → le32 s i ≡ indexAt s i w
 unfolding indexAt
@@ -61,13 +36,6 @@ index-four s i w e = simp (eq-eqb w 4 e)
 pub index-two : (s : List ℕ) (i w : ℕ) → (w ≡ 4 → ⊥) → le16 s i ≡ indexAt s i w
 unfolding indexAt
 index-two s i w n = simp (ne-eqb w 4 n)
-
--- an opcode of the kind has two bytes or more
-width-any : (kind : Kind) (op : ℕ) → (widthOf kind op ≡ 0) ⊎ (2 ≤ widthOf kind op)
-width-any strings op = ⊎-elim (λ e. inl e) (λ f. inr (⊎-elim (λ e. omega arith) (λ e. omega arith) f)) (width-string op)
-width-any types op = ⊎-elim (λ e. inl e) (λ e. inr (omega arith)) (width-even types op refl)
-width-any fields op = ⊎-elim (λ e. inl e) (λ e. inr (omega arith)) (width-even fields op refl)
-width-any methods op = ⊎-elim (λ e. inl e) (λ e. inr (omega arith)) (width-even methods op refl)
 
 string-none : (op : ℕ) → (Is 0x1a 0x1b op → ⊥) → widthOf strings op ≡ 0
 unfolding widthOf
@@ -139,10 +107,10 @@ module _ (s : List ℕ) (kind : Kind) (wanted : List ℕ) (from to : ℕ) where
   unfolding named
   no-hit p e = tried-none (isTried kind (p - from)) _ _ _ _ e
 
-  a-hit : (p x : ℕ) → isTried kind (p - from) ≡ true → some x ≡ named s kind wanted to p
+  hit-named : (p x : ℕ) → isTried kind (p - from) ≡ true → some x ≡ named s kind wanted to p
       → (isHit s kind wanted from to p ≡ true) × (indexAt s (p + 2) (widthOf kind (byte s p)) ≡ x)
   unfolding named
-  a-hit p x t e =
+  hit-named p x t e =
       let w = widthOf kind (byte s p) in
       rw t (tried-some (ltb 0 w) (leb (p + 2 + w) to) (isIn (indexAt s (p + 2) w) wanted) x (indexAt s (p + 2) w) e)
 
@@ -170,7 +138,7 @@ module _ (s : List ℕ) (kind : Kind) (wanted : List ℕ) (from to : ℕ) where
       → behind p ≡ record { off = p; mark = x } ∷ behind (p + 1)
   next-hit p x h t e =
       let k : to - p ≡ suc (to - (p + 1)) = omega arith in
-      let f = a-hit p x t e in
+      let f = hit-named p x t e in
       rw (k, add-one p) (one-hit (to - suc p) p x (f .0) (f .1))
 
   none-left : (n p : ℕ) → to < p + 4 → hitsIn n s kind wanted from to p ≡ []
@@ -191,14 +159,8 @@ tried-even types d e = refl
 tried-even fields d e = refl
 tried-even methods d e = refl
 
-pub strings-only : (kind : Kind) → isStrings kind ≡ true → kind ≡ strings
-strings-only strings e = refl
-strings-only types e = let z : _≡_ {A = ℕ} 0 1 = cc in absurd (omega arith)
-strings-only fields e = let z : _≡_ {A = ℕ} 0 1 = cc in absurd (omega arith)
-strings-only methods e = let z : _≡_ {A = ℕ} 0 1 = cc in absurd (omega arith)
-
-pub even-on : (from p r : ℕ) → from ≤ p → p + 2 ≤ r → (p - from) % 2 ≡ 0 → (r - (p + 2)) % 2 ≡ 0 → (r - from) % 2 ≡ 0
-even-on from p r a b e f = omega arith
+even-sum : (from p r : ℕ) → from ≤ p → p + 2 ≤ r → (p - from) % 2 ≡ 0 → (r - (p + 2)) % 2 ≡ 0 → (r - from) % 2 ≡ 0
+even-sum from p r a b e f = omega arith
 
 pub tried-strings : (d : ℕ) → isTried strings d ≡ true
 unfolding isTried
@@ -315,33 +277,80 @@ module _ (s : List ℕ) (kind : Kind) (table : List ℕ) (p : ℕ) (k : isString
             (bit-one (isIn x wanted) (λ e. z (t .at x (i .small) ∙ e)));
       }
 
--- ---- the hits stored so far: n are stored, and fs of all are still to come
+-- ---- the hits stored so far: before the start p n are stored, and fs of all are still to come
 
-pub record Going (all : List Hit) (offs₀ marks₀ : List ℕ) (fs : List Hit) (offs′ marks′ : List ℕ) (n : ℕ) : Type 0 where
+pub record Going (all : List Hit) (offs₀ marks₀ : List ℕ) (to : ℕ) (fs : List Hit) (offs′ marks′ : List ℕ) (p n : ℕ) : Type 0 where
   pub counted : n + length fs ≡ length all
   pub starts : sets offs′ n (offs fs) ≡ sets offs₀ 0 (offs all)
   pub indices : sets marks′ n (marks fs) ≡ sets marks₀ 0 (marks all)
+  pub inside : p ≤ to
+  pub few : n ≤ p
+  pub offs-kept : length offs′ ≡ length offs₀
+  pub marks-kept : length marks′ ≡ length marks₀
 
-pub going-start : (all : List Hit) (o m : List ℕ) → Going all o m all o m 0
-going-start all o m = record { counted = omega arith; starts = refl; indices = refl }
+module _ {all : List Hit} {o₀ m₀ : List ℕ} {to : ℕ} where
+  pub going-start : {fs : List Hit} {p : ℕ} → all ≡ fs → p ≤ to → Going all o₀ m₀ to fs o₀ m₀ p 0
+  going-start {p = p} e h =
+      subst (λ (l : List Hit). Going all o₀ m₀ to l o₀ m₀ p 0) e
+      (record { counted = omega arith; starts = refl; indices = refl; inside = h; few = omega arith; offs-kept = refl; marks-kept = refl })
 
-module _ {all : List Hit} {o₀ m₀ : List ℕ} where
-  pub going-same : {fs fs′ : List Hit} {o m o′ m′ : List ℕ} {n n′ : ℕ} → Going all o₀ m₀ fs o m n → fs ≡ fs′ → o′ ≡ o → m′ ≡ m → n′ ≡ n → Going all o₀ m₀ fs′ o′ m′ n′
-  going-same {o = o} {m = m} {n = n} g e eo em en =
-      rw (eo, em, en) (subst (λ (l : List Hit). Going all o₀ m₀ l o m n) e g)
+  same : {fs : List Hit} {o m : List ℕ} {n p r : ℕ} → Going all o₀ m₀ to fs o m p n → p < r → r ≤ to → Going all o₀ m₀ to fs o m r n
+  same g l h = record {
+    counted = g .counted;
+    starts = g .starts;
+    indices = g .indices;
+    inside = h;
+    few = omega (arith, g .few);
+    offs-kept = g .offs-kept;
+    marks-kept = g .marks-kept;
+  }
 
-  stored : {h : Hit} {fs : List Hit} {o m : List ℕ} {n : ℕ} → Going all o₀ m₀ (h ∷ fs) o m n → Going all o₀ m₀ fs (set o n (h .off)) (set m n (h .mark)) (n + 1)
-  stored g = record { counted = omega (arith, g .counted); starts = rw add-one (g .starts); indices = rw add-one (g .indices) }
+  stored : {h : Hit} {fs : List Hit} {o m : List ℕ} {n p r : ℕ} → Going all o₀ m₀ to (h ∷ fs) o m p n → p < r → r ≤ to
+      → Going all o₀ m₀ to fs (set o n (h .off)) (set m n (h .mark)) r (n + 1)
+  stored g l i = record {
+    counted = omega (arith, g .counted);
+    starts = rw add-one (g .starts);
+    indices = rw add-one (g .indices);
+    inside = i;
+    few = omega (arith, g .few);
+    offs-kept = simp length-set (g .offs-kept);
+    marks-kept = simp length-set (g .marks-kept);
+  }
 
-  pub going-hit : {fs fs′ : List Hit} {o m o′ m′ : List ℕ} {n n′ p x : ℕ} → Going all o₀ m₀ fs o m n → fs ≡ record { off = p; mark = x } ∷ fs′
-      → o′ ≡ set o n p → m′ ≡ set m n x → n′ ≡ n + 1 → Going all o₀ m₀ fs′ o′ m′ n′
-  going-hit {o = o} {m = m} {n = n} g e eo em en =
-      rw (eo, em, en) (stored (subst (λ (l : List Hit). Going all o₀ m₀ l o m n) e g))
+  -- the next start tells of a hit or of none
+  pub going-on : {fs fs′ : List Hit} {o m o′ m′ : List ℕ} {n n′ p r : ℕ} {mark : Option ℕ} → Going all o₀ m₀ to fs o m p n → Stored mark p n o m o′ m′ n′
+      → ((x : ℕ) → mark ≡ some x → fs ≡ record { off = p; mark = x } ∷ fs′) → (mark ≡ none → fs ≡ fs′) → p < r → r ≤ to
+      → Going all o₀ m₀ to fs′ o′ m′ r n′
+  going-on {o = o} {m = m} {n = n} {p = p} g (a-hit x e eo em en) hit other l i =
+      rw (eo, em, en) (stored (subst (λ (f : List Hit). Going all o₀ m₀ to f o m p n) (hit x e) g) l i)
+  going-on {o = o} {m = m} {n = n} {p = p} g (nothing e eo em en) hit other l i =
+      rw (eo, em, en) (same (subst (λ (f : List Hit). Going all o₀ m₀ to f o m p n) (other e) g) l i)
 
-  pub going-end : {fs : List Hit} {o m : List ℕ} {n : ℕ} → Going all o₀ m₀ fs o m n → fs ≡ [] → Collected all o₀ m₀ o m n
-  going-end {o = o} {m = m} {n = n} g e =
-      let f : Going all o₀ m₀ [] o m n = subst (λ (l : List Hit). Going all o₀ m₀ l o m n) e g in
+  pub going-end : {fs : List Hit} {o m : List ℕ} {p n : ℕ} → Going all o₀ m₀ to fs o m p n → fs ≡ [] → Collected all o₀ m₀ o m n
+  going-end {o = o} {m = m} {p = p} {n = n} g e =
+      let f : Going all o₀ m₀ to [] o m p n = subst (λ (l : List Hit). Going all o₀ m₀ to l o m p n) e g in
       record { counted = omega (arith, f .counted); starts = f .starts; indices = f .indices }
+
+  -- from a start to the next that is not skipped
+  pub string-on : (s wanted : List ℕ) (from : ℕ) {o m o′ m′ : List ℕ} {n n′ p r : ℕ} {mark : Option ℕ}
+      → Going all o₀ m₀ to (hitsFrom s strings wanted from to p) o m p n → 4 ≤ to - p → mark ≡ named s strings wanted to p → Stored mark p n o m o′ m′ n′
+      → Skipped s to (p + 1) r → Going all o₀ m₀ to (hitsFrom s strings wanted from to r) o′ m′ r n′
+  string-on s wanted from {p = p} {r = r} g h e t k =
+      let l : p < to = omega arith in
+      going-on g t (λ x f. string-hit-skip s wanted from to p r l k x (sym f ∙ e)) (λ f. string-none-skip s wanted from to p r l k (sym f ∙ e)) (omega (arith, k .onward)) (k .inside)
+
+  pub even-on : (s : List ℕ) (kind : Kind) (wanted : List ℕ) (from : ℕ) (table : List ℕ) {o m o′ m′ : List ℕ} {n n′ p r : ℕ} {mark : Option ℕ}
+      → isStrings kind ≡ false → TableOf wanted table → from ≤ p → (p - from) % 2 ≡ 0
+      → Going all o₀ m₀ to (hitsFrom s kind wanted from to p) o m p n → 4 ≤ to - p → EvenHit s kind table p mark → Stored mark p n o m o′ m′ n′
+      → SkippedEven s to table (p + 2) r
+      → Going all o₀ m₀ to (hitsFrom s kind wanted from to r) o′ m′ r n′ × (from ≤ r) × ((r - from) % 2 ≡ 0)
+  even-on s kind wanted from table {p = p} {r = r} k t a v g h e d j =
+      let l : p + 4 ≤ to = omega arith in
+      let b : p + 2 ≤ r = j .onward in (
+        going-on g d (λ x f. even-hit-skip s kind wanted from to table p r k t a v l j x e f) (λ f. even-none-skip s kind wanted from to table p r k t a v l j e f) (omega arith) (j .inside),
+        omega arith,
+        even-sum from p r a b v (j .even),
+      )
 
 -- the whole region
 pub hits-of : (s : List ℕ) (kind : Kind) (wanted : List ℕ) (from to : ℕ) → hitsOf s kind wanted from to ≡ hitsFrom s kind wanted from to from

@@ -7,7 +7,7 @@ use mathlib.Core.Path.{_≡_, refl, ap, sym, _∙_}
 use mathlib.Core.Bool.{Bool, true, false, _||_}
 use mathlib.Core.Logic.{⊎-elim}
 use mathlib.Core.List.{List, [], _∷_, _++_}
-use Prim.Native.Nat.{ℕ, zero, suc, _+_, _-_, _%_, _≤_, _<_}
+use Prim.Native.Nat.{ℕ, _+_, _-_, _%_, _≤_, _<_}
 use native.Mathlib.Numerals.{add-one}
 use native.Mathlib.Omega.{arith}
 use lib.Dec.{eqb}
@@ -15,6 +15,7 @@ use lib.ListN.{length, getD, set, take, replicate}
 use lib.Seq.{take-suc, getD-set-same, getD-set-other}
 use borrow.Author.Tests.{eq-eqb, ne-eqb, eqb-true, eqb-false}
 use Rattle.words.proofs.Shared.{case}
+use Rattle.words.proofs.Padded.{padded-none, padded-at}
 use Rattle.code_item_scan.specs.Scan.{isIn}
 use Rattle.code_item_scan.specs.Steps.{bit}
 
@@ -83,13 +84,8 @@ bit-one true n = refl
 bit-one false n = absurd (n refl)
 
 -- the places of the low halves: none before the first word
-zeros-at : (n i : ℕ) → _≡_ {A = ℕ} (getD (replicate n 0) i 0) 0
-zeros-at zero i = refl
-zeros-at (suc n) zero = refl
-zeros-at (suc n) (suc i) = zeros-at n i
-
 pub places-none : (y : ℕ) → _≡_ {A = ℕ} (getD (replicate 65536 0) y 0) 0
-places-none y = zeros-at 65536 y
+places-none y = ap (λ (l : List ℕ). getD l y 0) (sym (padded-none 65536)) ∙ padded-at 65536 [] y
 
 pub places-zero : (l : List ℕ) (y p : ℕ) → p ≡ 0 → isIn y (take p l) ≡ isIn y (take 0 l)
 places-zero l y p e = ap (λ (k : ℕ). isIn y (take k l)) e

@@ -1,11 +1,9 @@
 -- The whole scan gives its outcome: the refusals come in document 01's order, and hits stored into zeros are the padded list.
 -- Assumes nothing.
-use mathlib.Core.Path.{_≡_, refl, ap, sym, _∙_, subst}
+use mathlib.Core.Path.{_≡_, refl, ap, sym, _∙_}
 use mathlib.Core.Bool.{Bool, true, false, _&&_}
-use mathlib.Core.Option.{none, some}
-use mathlib.Core.List.{List, _++_}
-use mathlib.Core.Logic.{_⊎_, ⊎-elim}
-use Prim.Native.Nat.{ℕ, _+_, _≤_, _<_}
+use mathlib.Core.List.{List}
+use Prim.Native.Nat.{ℕ, _≤_}
 use native.Mathlib.Omega.{arith}
 use lib.Dec.{leb}
 use lib.ListN.{length, length-map, length-replicate}
@@ -14,83 +12,56 @@ use borrow.Author.Tests.{le-leb, lt-leb, leb-true, ltb-false}
 use Rattle.words.specs.Padded.{padded, zeros}
 use Rattle.words.proofs.Padded.{padded-none, sets-zeros}
 use Rattle.words.proofs.Shared.{and-left, and-right}
-use Rattle.refusal.specs.Refusals.{refusalNumber, tooLarge, largestFile}
+use Rattle.refusal.specs.Refusals.{refusalNumber, largestFile}
 use Rattle.refusal.specs.declared.Answer.{Answer}
 use Rattle.refusal.specs.declared.Answer.the-variants.{Done, Refused}
 use Rattle.refusal.specs.declared.Refusal.{Refusal}
 use Rattle.refusal.specs.declared.Refusal.the-variants.{FileTooLarge, UnknownKind, RegionOutside, LentTooShort}
-use Rattle.code_item_scan.specs.declared.Kind.{Kind}
-use Rattle.code_item_scan.specs.declared.Admission.{Admission}
-use Rattle.code_item_scan.specs.declared.Admission.the-variants.{Scan, Refuse}
+use Rattle.index_width.specs.declared.Kind.{Kind}
+use Rattle.index_width.specs.Kinds.{meant}
+use Rattle.scan_refusals.specs.declared.Admission.{Admission}
+use Rattle.scan_refusals.specs.declared.Admission.the-variants.{Scan, Refuse}
+use Rattle.scan_refusals.specs.Refused.{Admitted, large, unknown, backward, past-end, scan, Cleared, Settled}
 use Rattle.code_item_scan.specs.Scan as S
 use Rattle.code_item_scan.specs.Steps.{Collected, Region}
-use Rattle.code_item_scan.specs.Answers.{meant, admittedTo, Fits, Admitted, Cleared, Settled, Gives}
-
-and-false : (b : Bool) → (b && false) ≡ false
-and-false true = refl
-and-false false = refl
-
--- ---- what needs no scan
-
-module _ (len from to kind : ℕ) where
-  pub admit-large : tooLarge len ≡ true → Admitted len from to kind (Refuse FileTooLarge)
-  unfolding S.scanOut
-  admit-large e = record { fits = tt; is = λ s wanted ro rm q. simp (q, e) }
-
-  module _ (small : tooLarge len ≡ false) where
-    pub admit-unknown : none ≡ S.kindOf kind → Admitted len from to kind (Refuse UnknownKind)
-    unfolding S.scanOut
-    admit-unknown k = record { fits = tt; is = λ s wanted ro rm q. simp (q, small, sym k) }
-
-    module _ (known : Kind) (k : some (meant known) ≡ S.kindOf kind) where
-      pub admit-backward : to < from → Admitted len from to kind (Refuse RegionOutside)
-      unfolding S.scanOut
-      admit-backward h = record { fits = tt; is = λ s wanted ro rm q. simp (q, small, sym k, lt-leb from to h) }
-
-      pub admit-past : from ≤ to → len < to → Admitted len from to kind (Refuse RegionOutside)
-      unfolding S.scanOut
-      admit-past h l = record { fits = tt; is = λ s wanted ro rm q. simp (q, small, sym k, le-leb from to h, lt-leb to len l) }
-
-      pub admit-scan : from ≤ to → to ≤ len → Admitted len from to kind (Scan known)
-      unfolding S.scanOut
-      admit-scan h l =
-          record {
-            fits = (h, l, ltb-false largestFile len small);
-            is = λ s wanted ro rm q. simp (q, small, sym k, le-leb from to h, le-leb to len l);
-          }
+use Rattle.code_item_scan.specs.Answers.{Gives}
 
 -- ---- what an admission says
 
-module _ (s wanted : List ℕ) (from to kind : ℕ) {r : Admission} (g : Admitted (length s) from to kind r) where
+module _ (s wanted : List ℕ) (from to kind : ℕ) {r : Admission} where
   module _ (known : Kind) (e : r ≡ Scan known) where
-    pub admitted-region : Region s from to
-    admitted-region =
-        let f : Fits (Scan known) (length s) from to = subst (λ (a : Admission). Fits a (length s) from to) e (g .fits) in
-        record { forward = f .0; inside = f .1; small = f .2 }
+    pub admitted-region : Admitted (length s) from to kind r → Region s from to
+    admitted-region (large l f) = let z : _≡_ {A = ℕ} 0 1 = cc in absurd (omega arith)
+    admitted-region (unknown l k f) = let z : _≡_ {A = ℕ} 0 1 = cc in absurd (omega arith)
+    admitted-region (backward l k i h f) = let z : _≡_ {A = ℕ} 0 1 = cc in absurd (omega arith)
+    admitted-region (past-end l k i g h f) = let z : _≡_ {A = ℕ} 0 1 = cc in absurd (omega arith)
+    admitted-region (scan l k i g h f) = record { forward = g; inside = h; small = ltb-false largestFile (length s) l }
 
-    pub admitted-scan : (roomOffs roomMarks : ℕ)
+    pub admitted-scan : Admitted (length s) from to kind r → (roomOffs roomMarks : ℕ)
         → S.scanOut s kind wanted from to roomOffs roomMarks ≡ S.scanned roomOffs roomMarks (S.hitsOf s (meant known) wanted from to)
-    admitted-scan ro rm =
-        g .is s wanted ro rm refl ∙ ap (λ (a : Admission). admittedTo a (λ k. S.scanned ro rm (S.hitsOf s k wanted from to))) e
+    unfolding S.scanOut
+    admitted-scan (large l f) ro rm = let z : _≡_ {A = ℕ} 0 1 = cc in absurd (omega arith)
+    admitted-scan (unknown l k f) ro rm = let z : _≡_ {A = ℕ} 0 1 = cc in absurd (omega arith)
+    admitted-scan (backward l k i h f) ro rm = let z : _≡_ {A = ℕ} 0 1 = cc in absurd (omega arith)
+    admitted-scan (past-end l k i g h f) ro rm = let z : _≡_ {A = ℕ} 0 1 = cc in absurd (omega arith)
+    admitted-scan (scan l k i g h f) ro rm =
+        let d : k ≡ known = cc in
+        simp (l, i, le-leb from to g, le-leb to (length s) h) (ap (λ (j : Kind). S.scanned ro rm (S.hitsOf s (meant j) wanted from to)) d)
 
-  pub admitted-refusal : (why : Refusal) → r ≡ Refuse why → (roomOffs roomMarks : ℕ)
+  pub admitted-refusal : Admitted (length s) from to kind r → (why : Refusal) → r ≡ Refuse why → (roomOffs roomMarks : ℕ)
       → S.scanOut s kind wanted from to roomOffs roomMarks ≡ S.noScan (refusalNumber why)
-  admitted-refusal why e ro rm =
-      g .is s wanted ro rm refl ∙ ap (λ (a : Admission). admittedTo a (λ k. S.scanned ro rm (S.hitsOf s k wanted from to))) e
+  unfolding S.scanOut
+  admitted-refusal (large l f) why e ro rm = let d : FileTooLarge ≡ why = cc in simp l (ap (λ (x : Refusal). S.noScan (refusalNumber x)) d)
+  admitted-refusal (unknown l k f) why e ro rm = let d : UnknownKind ≡ why = cc in simp (l, k) (ap (λ (x : Refusal). S.noScan (refusalNumber x)) d)
+  admitted-refusal (backward l k i h f) why e ro rm =
+      let d : RegionOutside ≡ why = cc in
+      simp (l, i, lt-leb from to h) (ap (λ (x : Refusal). S.noScan (refusalNumber x)) d)
+  admitted-refusal (past-end l k i g h f) why e ro rm =
+      let d : RegionOutside ≡ why = cc in
+      simp (l, i, le-leb from to g, lt-leb to (length s) h) (ap (λ (x : Refusal). S.noScan (refusalNumber x)) d)
+  admitted-refusal (scan l k i g h f) why e ro rm = let z : _≡_ {A = ℕ} 0 1 = cc in absurd (omega arith)
 
 -- ---- the answer
-
-module _ (n : ℕ) (o m : List ℕ) where
-  pub settle-kept : n ≤ length o → n ≤ length m → Settled n o m o m (Done n)
-  settle-kept a b =
-      let e : (leb n (length o) && leb n (length m)) ≡ true = simp (le-leb n (length o) a, le-leb n (length m) b) in
-      record { answer = rw e; starts = rw e; indices = rw e }
-
-  pub settle-cleared : {o₁ m₁ : List ℕ} → (length o < n) ⊎ (length m < n) → Cleared o m o₁ m₁ → Settled n o m o₁ m₁ (Refused LentTooShort)
-  settle-cleared h z =
-      let e : (leb n (length o) && leb n (length m)) ≡ false =
-      ⊎-elim (λ a. rw (lt-leb n (length o) a)) (λ b. rw (lt-leb n (length m) b) (and-false (leb n (length o)))) h in
-      record { answer = rw e; starts = rw e (z .starts); indices = rw e (z .indices) }
 
 pub gives-refused : {o : S.Scan} {o₀ m₀ o₁ m₁ : List ℕ} (why : Refusal) → o ≡ S.noScan (refusalNumber why) → Cleared o₀ m₀ o₁ m₁ → Gives o (Refused why) o₀ m₀ o₁ m₁
 gives-refused {o₀ = o₀} {m₀ = m₀} why e z =

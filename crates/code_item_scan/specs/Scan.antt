@@ -1,5 +1,5 @@
 -- The scan of a region, as document 01 says it under code_item_scan.rs: the places that look like an instruction of the kind asked for
--- with a wanted index. What an instruction is and what it names is dalvik's; that none is lost is demand 3.
+-- with a wanted index. Kinds and widths are index_width's. What an instruction is and what it names is dalvik's; that none is lost is demand 3.
 -- Assumes nothing.
 use Prim.Native.Nat.{ℕ, zero, suc, _+_, _-_, _%_}
 use mathlib.Core.List.{List, [], _∷_, map}
@@ -10,34 +10,9 @@ use lib.Dec.{ltb, leb, eqb}
 use Rattle.dalvik.specs.Numbers.{byte, le16, le32}
 use Rattle.dalvik.specs.Instructions.{Kind}
 use Rattle.dalvik.specs.Instructions.Kind.{strings, types, fields, methods}
-use Rattle.opcodes.specs.Length.{Range, only, upTo, within}
 use Rattle.refusal.specs.Refusals.{tooLarge}
-
--- document 01's kinds 1 to 4
-abbrev pub kindNumber : Kind → ℕ
-kindNumber strings = 1
-kindNumber types = 2
-kindNumber fields = 3
-kindNumber methods = 4
-
-unfoldable pub kindOf : ℕ → Option Kind
-kindOf n = cond (eqb n 1) (some strings) (cond (eqb n 2) (some types) (cond (eqb n 3) (some fields) (cond (eqb n 4) (some methods) none)))
-
-abbrev pub typeOpcodes : List Range
-typeOpcodes = only 0x1c ∷ only 0x1f ∷ only 0x20 ∷ upTo 0x22 0x25 ∷ []
-
-abbrev pub fieldOpcodes : List Range
-fieldOpcodes = upTo 0x52 0x6d ∷ []
-
-abbrev pub methodOpcodes : List Range
-methodOpcodes = upTo 0x6e 0x72 ∷ upTo 0x74 0x78 ∷ only 0xfa ∷ only 0xfb ∷ []
-
--- how many bytes wide the index is that an opcode of the kind names; 0 for another opcode
-unfoldable pub widthOf : Kind → ℕ → ℕ
-widthOf strings op = cond (eqb op 0x1a) 2 (cond (eqb op 0x1b) 4 0)
-widthOf types op = cond (within op typeOpcodes) 2 0
-widthOf fields op = cond (within op fieldOpcodes) 2 0
-widthOf methods op = cond (within op methodOpcodes) 2 0
+use Rattle.index_width.specs.Width.{widthOf}
+use Rattle.index_width.specs.Kinds.{kindOf}
 
 -- the index of the given width at i
 unfoldable pub indexAt : List ℕ → ℕ → ℕ → ℕ

@@ -5,26 +5,21 @@ use mathlib.Core.Path.{_≡_}
 use mathlib.Core.Bool.{Bool, true, false, cond, _&&_}
 use mathlib.Core.Option.{Option, none, some}
 use mathlib.Core.List.{List}
-use lib.ListN.{length, getD, take}
+use lib.ListN.{length, getD, take, set}
 use lib.Seq.{sets}
 use lib.Dec.{ltb, leb}
 use Rattle.dalvik.specs.Numbers.{byte, le16}
 use Rattle.dalvik.specs.Instructions.{Kind}
-use Rattle.dalvik.specs.Instructions.Kind.{strings, types, fields, methods}
+use Rattle.dalvik.specs.Instructions.Kind.{strings}
 use Rattle.refusal.specs.Refusals.{largestFile}
-use Rattle.code_item_scan.specs.Scan.{Hit, widthOf, indexAt, isIn, hitsIn, offs, marks}
+use Rattle.index_width.specs.Width.{widthOf}
+use Rattle.index_width.specs.Kinds.{isStrings}
+use Rattle.code_item_scan.specs.Scan.{Hit, indexAt, isIn, hitsIn, offs, marks}
 
 -- r is the number of two bytes at i
 pub record Read16 (s : List ℕ) (i r : ℕ) : Type 0 where
   pub is : r ≡ le16 s i
   pub small : r < 65536
-
--- strings alone have indices of four bytes, and starts at odd places
-abbrev pub isStrings : Kind → Bool
-isStrings strings = true
-isStrings types = false
-isStrings fields = false
-isStrings methods = false
 
 -- a region inside a file that is not too large
 pub record Region (s : List ℕ) (from to : ℕ) : Type 0 where
@@ -75,6 +70,11 @@ pub record SkippedEven (s : List ℕ) (to : ℕ) (table : List ℕ) (p r : ℕ) 
   pub even : (r - p) % 2 ≡ 0
   pub same : (kind : Kind) (wanted : List ℕ) (from : ℕ) → isStrings kind ≡ false → TableOf wanted table → from ≤ p → (p - from) % 2 ≡ 0
       → hitsFrom s kind wanted from to p ≡ hitsFrom s kind wanted from to r
+
+-- what one start tells of n hits stored and the lent words: one hit more, or nothing
+pub data Stored (mark : Option ℕ) (p n : ℕ) (offs₀ marks₀ offs₁ marks₁ : List ℕ) (r : ℕ) : Type 0 where
+  a-hit : (x : ℕ) → mark ≡ some x → offs₁ ≡ set offs₀ n p → marks₁ ≡ set marks₀ n x → r ≡ n + 1 → Stored mark p n offs₀ marks₀ offs₁ marks₁ r
+  nothing : mark ≡ none → offs₁ ≡ offs₀ → marks₁ ≡ marks₀ → r ≡ n → Stored mark p n offs₀ marks₀ offs₁ marks₁ r
 
 -- n hits, and what storing them makes of lent words; a store past the end changes nothing
 pub record Collected (hits : List Hit) (offs₀ marks₀ offs₁ marks₁ : List ℕ) (n : ℕ) : Type 0 where

@@ -6,60 +6,20 @@ ghost use mathlib.Core.Bool.{false};
 ghost use Prim.Native.Nat.{_+_, _<_, _≤_};
 ghost use lib.ListN.{length, replicate};
 ghost use Rattle.dalvik.specs.Numbers.{le32};
-ghost use Rattle.dalvik.specs.Instructions.Kind.{strings, types, fields, methods};
+ghost use Rattle.dalvik.specs.Instructions.Kind.{strings};
 ghost use Rattle.structs.specs.Reads.{ByteAt};
-ghost use Rattle.code_item_scan.specs.Scan.{kindOf, widthOf, isIn, hitsOf, scanOut};
-ghost use Rattle.code_item_scan.specs.Steps.{Read16, TableOf, PlacesOf, named, EvenHit, Skipped, SkippedEven, Collected, Region, isStrings};
-ghost use Rattle.code_item_scan.specs.Answers.{meant, kindRead, marked, Admitted, Cleared, Settled, Gives};
+ghost use Rattle.index_width.specs.Kinds.{isStrings, meant};
+ghost use Rattle.code_item_scan.specs.Scan.{isIn, hitsOf, scanOut};
+ghost use Rattle.code_item_scan.specs.Steps.{Read16, TableOf, PlacesOf, named, EvenHit, Skipped, SkippedEven, Stored, Collected, Region};
+ghost use Rattle.code_item_scan.specs.Answers.{marked, Gives};
+use index_width::Kind;
 use refusal::Answer;
-use refusal::Refusal;
-
-// What the index names: document 01's kinds 1 to 4.
-enum Kind {
-    Strings,
-    Types,
-    Fields,
-    Methods,
-}
-
-enum KindRead {
-    Known(Kind),
-    Unknown,
-}
+use scan_refusals::Admission;
 
 // What stands at one start: the index of a hit, or nothing.
 enum Hit {
     Mark(u32),
     Nothing,
-}
-
-// Whether a region is scanned, or why not.
-enum Admission {
-    Scan(Kind),
-    Refuse(Refusal),
-}
-
-fn kind_of(k: u32) -> KindRead
-    ensures { λ r. ⌜ kindRead r ≡ kindOf k ⌝ }
-{
-    match k {
-        1 => KindRead::Known(Kind::Strings),
-        2 => KindRead::Known(Kind::Types),
-        3 => KindRead::Known(Kind::Fields),
-        4 => KindRead::Known(Kind::Methods),
-        _ => KindRead::Unknown,
-    }
-}
-
-fn is_strings(kind: Kind) -> bool
-    ensures { λ r. ⌜ r ≡ isStrings (meant kind) ⌝ }
-{
-    match kind {
-        Kind::Strings => true,
-        Kind::Types => false,
-        Kind::Fields => false,
-        Kind::Methods => false,
-    }
 }
 
 // A byte as a word.
@@ -82,55 +42,6 @@ fn u32_at(s: &[u8], i: usize) -> u32
     ensures { λ r. ⌜ r ≡ le32 (now (s .entry)) i ⌝ }
 {
     u16_at(s, i) + 65536 * u16_at(s, i + 2)
-}
-
-// The width in bytes of the index that an opcode of the kind names; 0 for another opcode.
-fn string_width(op: u8) -> usize
-    ensures { λ r. ⌜ r ≡ widthOf strings op ⌝ }
-{
-    match op {
-        0x1a => 2,
-        0x1b => 4,
-        _ => 0,
-    }
-}
-
-fn type_width(op: u8) -> usize
-    ensures { λ r. ⌜ r ≡ widthOf types op ⌝ }
-{
-    match op {
-        0x1c | 0x1f | 0x20 | 0x22..=0x25 => 2,
-        _ => 0,
-    }
-}
-
-fn field_width(op: u8) -> usize
-    ensures { λ r. ⌜ r ≡ widthOf fields op ⌝ }
-{
-    match op {
-        0x52..=0x6d => 2,
-        _ => 0,
-    }
-}
-
-fn method_width(op: u8) -> usize
-    ensures { λ r. ⌜ r ≡ widthOf methods op ⌝ }
-{
-    match op {
-        0x6e..=0x72 | 0x74..=0x78 | 0xfa | 0xfb => 2,
-        _ => 0,
-    }
-}
-
-fn width(kind: Kind, op: u8) -> usize
-    ensures { λ r. ⌜ r ≡ widthOf (meant kind) op ⌝ }
-{
-    match kind {
-        Kind::Strings => string_width(op),
-        Kind::Types => type_width(op),
-        Kind::Fields => field_width(op),
-        Kind::Methods => method_width(op),
-    }
 }
 
 // A table of the indices of two bytes: 1 where the index is wanted, else 0.
@@ -181,7 +92,7 @@ fn string_hit(s: &[u8], end: usize, wanted: &[u32], places: &[usize; 65536], at:
     requires { ⌜ (at + 4 ≤ end) × (end ≤ length (now s)) × PlacesOf (now wanted) (now places) ⌝ }
     ensures { λ r. ⌜ marked r ≡ named (now (s .entry)) strings (now (wanted .entry)) end at ⌝ }
 {
-    let w = string_width(s[at]);
+    let w = index_width::string_width(s[at]);
     if w == 0 {
         return Hit::Nothing;
     }
@@ -207,6 +118,19 @@ fn skip(s: &[u8], end: usize, start: usize) -> usize
     memchr::memchr2(0x1a, 0x1b, s, start, end)
 }
 
+// A hit is stored behind n others, as far as there is room. How many there are then.
+fn store(h: Hit, at: usize, offs: &mut [u32], marks: &mut [u32], n: usize) -> usize
+    requires { ⌜ (n ≤ at) × (at < 4294967296) ⌝ }
+    ensures { λ r. ⌜ Stored (marked h) at n (now (offs .entry)) (now (marks .entry)) (now (offs .exit)) (now (marks .exit)) r ⌝ }
+{
+    let Hit::Mark(x) = h else {
+        return n;
+    };
+    words::put(offs, n, at as u32);
+    words::put(marks, n, x);
+    n + 1
+}
+
 // The string hits of a region, and how many there are: stored as far as there is room.
 fn collect_strings(
     s: &[u8],
@@ -225,11 +149,7 @@ fn collect_strings(
     let mut n: usize = 0;
     while 4 <= end - at {
         let h = string_hit(s, end, wanted, &places, at);
-        if let Hit::Mark(x) = h {
-            words::put(offs, n, at as u32);
-            words::put(marks, n, x);
-            n += 1;
-        }
+        n = store(h, at, offs, marks, n);
         at = skip(s, end, at + 1);
     }
     n
@@ -244,7 +164,7 @@ fn even_hit(s: &[u8], kind: Kind, table: &[u8; 65536], at: usize) -> Hit
     if table[x as usize] == 0 {
         return Hit::Nothing;
     }
-    if width(kind, s[at]) == 0 {
+    if index_width::width(kind, s[at]) == 0 {
         return Hit::Nothing;
     }
     Hit::Mark(x)
@@ -285,11 +205,7 @@ fn collect_even(
     let mut n: usize = 0;
     while 4 <= end - at {
         let h = even_hit(s, kind, &table, at);
-        if let Hit::Mark(x) = h {
-            words::put(offs, n, at as u32);
-            words::put(marks, n, x);
-            n += 1;
-        }
+        n = store(h, at, offs, marks, n);
         at = skip_even(s, end, &table, at + 2);
     }
     n
@@ -308,49 +224,10 @@ fn collect(
     requires { ⌜ Region (now s) start end ⌝ }
     ensures { λ r. ⌜ Collected (hitsOf (now (s .entry)) (meant kind) (now (wanted .entry)) start end) (now (offs .entry)) (now (marks .entry)) (now (offs .exit)) (now (marks .exit)) r ⌝ }
 {
-    if is_strings(kind) {
+    if index_width::is_strings(kind) {
         return collect_strings(s, start, end, wanted, offs, marks);
     }
     collect_even(s, start, end, kind, wanted, offs, marks)
-}
-
-// The refusals that need no scan: 1, 2, 12.
-fn admit(len: usize, start: usize, end: usize, kind: u32) -> Admission
-    ensures { λ r. ⌜ Admitted len start end kind r ⌝ }
-{
-    if refusal::too_large(len) {
-        return Admission::Refuse(Refusal::FileTooLarge);
-    }
-    let KindRead::Known(k) = kind_of(kind) else {
-        return Admission::Refuse(Refusal::UnknownKind);
-    };
-    if end < start {
-        return Admission::Refuse(Refusal::RegionOutside);
-    }
-    if len < end {
-        return Admission::Refuse(Refusal::RegionOutside);
-    }
-    Admission::Scan(k)
-}
-
-fn clear_both(offs: &mut [u32], marks: &mut [u32])
-    ensures { λ _. ⌜ Cleared (now (offs .entry)) (now (marks .entry)) (now (offs .exit)) (now (marks .exit)) ⌝ }
-{
-    words::clear(offs);
-    words::clear(marks);
-}
-
-// The answer for n hits: 4 where a lent slice cannot hold them, and then both are cleared.
-fn settle(n: usize, offs: &mut [u32], marks: &mut [u32]) -> Answer
-    ensures { λ r. ⌜ Settled n (now (offs .entry)) (now (marks .entry)) (now (offs .exit)) (now (marks .exit)) r ⌝ }
-{
-    if n <= offs.len() {
-        if n <= marks.len() {
-            return Answer::Done(n);
-        }
-    }
-    clear_both(offs, marks);
-    Answer::Refused(Refusal::LentTooShort)
 }
 
 // The starts in the region from `start` to `end` of a file that look like an instruction of the kind with a wanted index, rising, and
@@ -367,13 +244,13 @@ pub fn scan(
 ) -> Answer
     ensures { λ r. ⌜ Gives (scanOut (now (file .entry)) kind (now (wanted .entry)) start end (length (now (offs .entry))) (length (now (marks .entry)))) r (now (offs .entry)) (now (marks .entry)) (now (offs .exit)) (now (marks .exit)) ⌝ }
 {
-    clear_both(offs, marks);
-    let a = admit(file.len(), start as usize, end as usize, kind);
+    scan_refusals::clear_both(offs, marks);
+    let a = scan_refusals::admit(file.len(), start as usize, end as usize, kind);
     match a {
         Admission::Refuse(why) => Answer::Refused(why),
         Admission::Scan(k) => {
             let n = collect(file, start as usize, end as usize, k, wanted, offs, marks);
-            settle(n, offs, marks)
+            scan_refusals::settle(n, offs, marks)
         }
     }
 }

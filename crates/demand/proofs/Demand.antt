@@ -15,10 +15,11 @@ use Rattle.tinydex.specs.declared.DexHeader.{DexHeader}
 use Rattle.dalvik.specs.CodeItem.{Code}
 use Rattle.dalvik.specs.Instructions.{Kind}
 use Rattle.dalvik.specs.Instructions.Kind.{strings, types, fields, methods}
-use Rattle.class_data.specs.Stored.{startsOf}
+use Rattle.class_data_parse.specs.Stored.{startsOf}
 use Rattle.code_table.specs.Slots.{baseOf, topOf, tableOf}
 use Rattle.code_table.specs.Build.{Build, mostShares, wholeBuild, buildOut}
-use Rattle.code_item_scan.specs.Scan.{Hit, kindNumber, kindOf, offs, Scan, scanOut}
+use Rattle.index_width.specs.Kinds.{kindNumber, kindOf}
+use Rattle.code_item_scan.specs.Scan.{Hit, offs, Scan, scanOut}
 use Rattle.insn_locator.specs.Locate.{Tables, locateAll, locateOut}
 use Rattle.insn_locator.specs.Listing.{listOut}
 use Rattle.demand.specs.Supposed.{Supposed}

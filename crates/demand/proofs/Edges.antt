@@ -10,11 +10,13 @@ use Rattle.dalvik.specs.Numbers.{le16, le32}
 use Rattle.dalvik.specs.CodeItem.{Code}
 use Rattle.opcodes.specs.Length.{unitsOf}
 use Rattle.leb128.specs.Leb.{uleb, ulebFast, lenOf, ulebLen}
-use Rattle.class_data.specs.Codes.{skipped, methodsFrom, classDataAt, successive, defined, entryFrom, mapEntry, codesOf}
-use Rattle.class_data.specs.Stored.{startsOf}
+use Rattle.class_data_item.specs.Walk.{skipped, methodsFrom, classDataAt}
+use Rattle.class_data.specs.Codes.{successive, defined, entryFrom, mapEntry, codesOf}
+use Rattle.class_data_parse.specs.Stored.{startsOf}
 use Rattle.code_table.specs.Slots.{joined, joinedSlot, place, tableOf}
 use Rattle.code_table.specs.Build.{Room, buildOut}
-use Rattle.code_item_scan.specs.Scan.{kindOf, scanOut}
+use Rattle.index_width.specs.Kinds.{kindOf}
+use Rattle.code_item_scan.specs.Scan.{scanOut}
 use Rattle.insn_locator.specs.Locate.{step, landsIn, lands, slotAt, firstOf, locateFrom, locateAll}
 use Rattle.insn_locator.specs.Listing.{chain, listed}
 use Rattle.demand.proofs.Owners.{tablesFor}

@@ -15,7 +15,8 @@ use Rattle.dalvik.specs.Formats.{lengthOf}
 use Rattle.dalvik.specs.CodeItem.{Code, start}
 use Rattle.dalvik.specs.Instructions.{Kind, Names}
 use Rattle.code_table.specs.Slots.{baseOf, topOf}
-use Rattle.code_item_scan.specs.Scan.{Hit, widthOf, indexAt, isTried, isIn, isHit, hitsOf, offs}
+use Rattle.index_width.specs.Width.{widthOf}
+use Rattle.code_item_scan.specs.Scan.{Hit, indexAt, isTried, isIn, isHit, hitsOf, offs}
 use Rattle.insn_locator.specs.Locate.{Tables, lands}
 use Rattle.demand.specs.Supposed.{Supposed}
 use Rattle.demand.specs.Statement.{entriesOf, Rising, NamesWanted}

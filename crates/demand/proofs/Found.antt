@@ -17,8 +17,9 @@ use Rattle.dalvik.specs.ClassData.Defined.{no-data, some-data}
 use Rattle.dalvik.specs.ClassData.CodesOf.{by-map, without-entry, without-map}
 use Rattle.leb128.proofs.Published.{ends-behind, ends-inside, fast-published, len-published}
 use Rattle.tinydex.specs.declared.DexHeader.{DexHeader}
-use Rattle.class_data.specs.Codes.{Walk, skipped, word, mostMethods, codeAt, methodsFrom, classDataAt, successive, defined, entryFrom, mapEntry, codesOf}
-use Rattle.class_data.specs.Codes.Walk.{found}
+use Rattle.class_data_item.specs.Walk.{Walk, skipped, word, mostMethods, codeAt, methodsFrom, classDataAt}
+use Rattle.class_data_item.specs.Walk.Walk.{found}
+use Rattle.class_data.specs.Codes.{successive, defined, entryFrom, mapEntry, codesOf}
 
 -- the offset behind a number, as the walk counts it
 on : {s : List ℕ} {i v e : ℕ} → Uleb128 s i v e → i + (e - i) ≡ e

@@ -22,11 +22,14 @@ use Rattle.dalvik.specs.Instructions.{Kind, Instructions, Payloads}
 use Rattle.dalvik.specs.Instructions.Kind.{strings}
 use Rattle.dalvik.specs.Instructions.Payload.{packed-switch}
 use Rattle.leb128.specs.Leb.{uleb, ulebFast, lenOf, ulebLen}
-use Rattle.class_data.specs.Codes.{skipped, methodsFrom, classDataAt, successive, defined, entryFrom, mapEntry, codesOf}
-use Rattle.class_data.specs.Stored.{triplesOf, startsOf}
+use Rattle.class_data_item.specs.Walk.{skipped, methodsFrom, classDataAt}
+use Rattle.class_data.specs.Codes.{successive, defined, entryFrom, mapEntry, codesOf}
+use Rattle.class_data_parse.specs.Stored.{triplesOf, startsOf}
 use Rattle.code_table.specs.Slots.{joined, joinedSlot, place, tableOf}
 use Rattle.code_table.specs.Build.{Build, buildOut}
-use Rattle.code_item_scan.specs.Scan.{kindOf, widthOf, indexAt, isTried, hitsIn, hitsOf, Scan, scanOut}
+use Rattle.index_width.specs.Width.{widthOf}
+use Rattle.index_width.specs.Kinds.{kindOf}
+use Rattle.code_item_scan.specs.Scan.{indexAt, isTried, hitsIn, hitsOf, Scan, scanOut}
 use Rattle.insn_locator.specs.Locate.{step, landsIn, lands, slotAt, firstOf, locateFrom, locateAll, locateOut}
 use Rattle.insn_locator.specs.Listing.{chain, listed, listOut}
 use Rattle.opcodes.specs.Length.{unitsOf}

@@ -20,7 +20,8 @@ use Rattle.dalvik.specs.Instructions.FieldOpcode.{iinstanceop, sstaticop}
 use Rattle.dalvik.specs.Instructions.MethodOpcode.{invoke, invoke-range, invoke-polymorphic}
 use Rattle.dalvik.specs.Instructions.Names.{const-string, const-string-jumbo, type-index, field-index, method-index}
 use Rattle.opcodes.specs.Length.{Range, only, upTo, within}
-use Rattle.code_item_scan.specs.Scan.{typeOpcodes, fieldOpcodes, methodOpcodes, widthOf, indexAt, isTried}
+use Rattle.index_width.specs.Width.{typeOpcodes, fieldOpcodes, methodOpcodes, widthOf}
+use Rattle.code_item_scan.specs.Scan.{indexAt, isTried}
 use Rattle.demand.proofs.Tests.{no-test, lt-or-le}
 
 -- ---- ranges

@@ -15,7 +15,8 @@ use Rattle.dalvik.specs.CodeItem.{Code}
 use Rattle.dalvik.specs.Instructions.{Kind, InstructionOf, Names}
 use Rattle.code_table.specs.Slots.{baseOf, topOf, tableOf}
 use Rattle.code_table.specs.Build.{Room, Build, buildOut}
-use Rattle.code_item_scan.specs.Scan.{Hit, hitsOf, offs, kindNumber, Scan, scanOut}
+use Rattle.index_width.specs.Kinds.{kindNumber}
+use Rattle.code_item_scan.specs.Scan.{Hit, hitsOf, offs, Scan, scanOut}
 use Rattle.insn_locator.specs.Locate.{Tables, locateOut}
 use Rattle.insn_locator.specs.Listing.{listOut}
 use Rattle.demand.specs.Supposed.{Distinct, BlockOf, Supposed}

@@ -6,13 +6,15 @@ use Rattle.string_data.specs.Text.{stringText, behindLength, textFrom, firstZer
 use Rattle.dalvik.specs.Numbers.{le16, le32}
 use Rattle.groups.specs.Groups.{idsWhere, joined, tabulate}
 use Rattle.groups.specs.Built.{groupsOf}
-use Rattle.groups.specs.Stretch.{stretchOf}
+use Rattle.group_slice.specs.Stretch.{stretchOf}
 use Rattle.words.specs.Padded.{stretch}
 use Rattle.code_table.specs.Slots.{joined as joinedShare, joinedSlot, place, tableOf}
 use Rattle.insn_locator.specs.Listing.{chain, listed, listOut}
 use Rattle.string_search.specs.Keys.{owner}
 use Rattle.opcodes.specs.Length.{lengthRead, unitsOf}
-use Rattle.code_item_scan.specs.Scan.{scanOut, kindOf, hitsOf, hitsIn, isTried, widthOf, indexAt}
+use Rattle.index_width.specs.Width.{widthOf}
+use Rattle.index_width.specs.Kinds.{kindOf}
+use Rattle.code_item_scan.specs.Scan.{scanOut, hitsOf, hitsIn, isTried, indexAt}
 use Rattle.examples.specs.Table.{Table}
 
 pub checked : Table

@@ -10,7 +10,7 @@ use Rattle.leb128.specs.declared.Len.the-variants.{Bytes}
 use Rattle.string_data.specs.Text.{stringText, found, none}
 use Rattle.dalvik.specs.Ids.{type-descriptor-idx}
 use Rattle.groups.specs.Built.{Groups, groupsOf}
-use Rattle.groups.specs.Stretch.{stretchOf}
+use Rattle.group_slice.specs.Stretch.{stretchOf}
 use Rattle.dalvik.specs.CodeItem.{Code}
 use Rattle.refusal.specs.Outcomes.{success}
 use Rattle.code_table.specs.Slots.{tableOf}

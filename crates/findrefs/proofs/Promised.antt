@@ -15,12 +15,14 @@ use Rattle.tinydex.specs.declared.DexHeader.{DexHeader}
 use Rattle.dalvik.specs.CodeItem.{Code}
 use Rattle.dalvik.specs.Instructions.{Kind}
 use Rattle.code_table.specs.Build.{Build, buildOut}
-use Rattle.code_item_scan.specs.Scan.{Hit, offs, marks, kindNumber, Scan, scanOut}
+use Rattle.index_width.specs.Kinds.{kindNumber}
+use Rattle.code_item_scan.specs.Scan.{Hit, offs, marks, Scan, scanOut}
 use Rattle.insn_locator.specs.Listing.{listOut}
 use Rattle.demand.specs.Supposed.{Supposed}
 use Rattle.demand.specs.Statement.{Lent, Suffices, Confirmed, Rising, Shown, Lies, NamesWanted, Finds, FindsAll, builtOf, scannedOf, locatedOf, listingOf}
 use Rattle.demand.proofs.Demand.{demand3}
-use Rattle.findrefs.specs.Find.{searched, searchOut, Lengths, Find, found, searchOf, findOut}
+use Rattle.scan_locate.specs.Search.{searched, searchOut}
+use Rattle.findrefs.specs.Find.{Lengths, Find, found, searchOf, findOut}
 use Rattle.findrefs.specs.Gives.{foundNumber, foundHits, GivesFind}
 use Rattle.findrefs.specs.Promise.{lentOf, ConfirmedEntry, Shows, Delivers, Promise}
 use Rattle.findrefs.specs.declared.Found.{Found}

@@ -1,37 +1,14 @@
 -- The outcome of the finder: the outcomes of build, scan and locate one after another, up to the first that refuses.
 -- Assumes nothing.
-use Prim.Native.Nat.{ℕ, _/_}
+use Prim.Native.Nat.{ℕ}
 use mathlib.Core.List.{List, []}
 use mathlib.Core.Bool.{cond}
 use lib.Dec.{eqb}
 use Rattle.words.specs.Padded.{padded}
-use Rattle.refusal.specs.Outcomes.{Outcome}
 use Rattle.tinydex.specs.declared.DexHeader.{DexHeader}
 use Rattle.code_table.specs.Build.{Room, Build, noBuild, buildOut}
-use Rattle.code_item_scan.specs.Scan.{Hit, offs, Scan, scanOut}
-use Rattle.insn_locator.specs.Locate.{Tables, locateOut}
-use Rattle.insn_locator.specs.Answers.{tables}
-
--- scan and locate: document 01's number (0 for success), the hits, and an answer for each
-pub record Search : Type 0 where
-  pub number : ℕ
-  pub hits : List Hit
-  pub answers : List ℕ
-
--- where locate refuses no hit is left
-abbrev pub searched : List Hit → Outcome → Search
-searched hits A =
-    cond (eqb (A .number) 0)
-    (record { number = 0; hits = hits; answers = A .list })
-    (record { number = A .number; hits = []; answers = A .list })
-
--- roomO, roomM, roomF and roomA count the words for offsets, indices, last confirmed offsets and answers
-unfoldable pub searchOut : List ℕ → ℕ → List ℕ → ℕ → ℕ → List ℕ → List ℕ → List ℕ → ℕ → ℕ → ℕ → ℕ → Search
-searchOut s kind wanted from to slots starts shares roomO roomM roomF roomA =
-    let S = scanOut s kind wanted from to roomO roomM in
-    cond (eqb (S .number) 0)
-    (searched (S .hits) (locateOut s (tables (from / 16) slots starts shares) (offs (S .hits)) roomA roomF))
-    (record { number = S .number; hits = S .hits; answers = [] })
+use Rattle.code_item_scan.specs.Scan.{Hit}
+use Rattle.scan_locate.specs.Search.{Search, searchOut}
 
 -- how many words are lent
 pub record Lengths : Type 0 where

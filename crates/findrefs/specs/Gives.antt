@@ -5,15 +5,16 @@ use mathlib.Core.Path.{_≡_}
 use mathlib.Core.List.{List}
 use lib.ListN.{length}
 use Rattle.words.specs.Padded.{zeros, padded}
-use Rattle.refusal.specs.Refusals.{refusalNumber, answerNumber, answerCount}
-use Rattle.refusal.specs.Outcomes.{Outcome}
+use Rattle.refusal.specs.Refusals.{refusalNumber}
 use Rattle.refusal.specs.declared.Answer.{Answer}
 use Rattle.refusal.specs.declared.Answer.the-variants as a
 use Rattle.code_table.specs.declared.Region.{Region}
+use Rattle.code_table.specs.declared.Built.{Built}
+use Rattle.code_table.specs.declared.Built.the-variants as b
 use Rattle.code_item_scan.specs.Scan.{offs, marks}
 use Rattle.findrefs.specs.declared.Found.{Found}
 use Rattle.findrefs.specs.declared.Found.the-variants.{Done, Refused}
-use Rattle.findrefs.specs.Find.{Search, Lengths, Find}
+use Rattle.findrefs.specs.Find.{Lengths, Find}
 
 -- 0 for success
 abbrev pub foundNumber : Found → ℕ
@@ -54,38 +55,23 @@ pub record GivesFind (o : Find) (L : Lengths) (r : Found) (zs ts xs ws os ms fs 
   pub further : fs ≡ zeros (L .further)
   pub answers : as′ ≡ padded (L .answers) (o .answers)
 
--- ---- the two inner steps
+-- ---- the last step
 
--- scan and locate
-pub record GivesSearch (o : Search) (r : Answer) (os₀ ms₀ fs₀ as₀ os ms fs as′ : List ℕ) : Type 0 where
-  pub number : answerNumber r ≡ o .number
-  pub count : answerCount r ≡ length (o .hits)
-  pub offsets : os ≡ padded (length os₀) (offs (o .hits))
-  pub indices : ms ≡ padded (length ms₀) (marks (o .hits))
-  pub further : fs ≡ zeros (length fs₀)
-  pub answers : as′ ≡ padded (length as₀) (o .answers)
+-- the finder's answer, of the build's and the search's
+unfoldable pub foundOf : Built → Answer → Found
+foundOf (b.Done region codes n k) (a.Done hits) = Done region hits
+foundOf (b.Done region codes n k) (a.Refused r) = Refused r
+foundOf (b.Refused r) q = Refused r
 
--- what a refused locate clears, and does not count
-abbrev pub kept : Answer → List ℕ → List ℕ
-kept (a.Done n) ws = ws
-kept (a.Refused r) ws = zeros (length ws)
+-- what a refused search clears of the build
+unfoldable pub builtLeft : Built → Answer → List ℕ → List ℕ
+builtLeft (b.Done region codes n k) (a.Done hits) ws = ws
+builtLeft (b.Done region codes n k) (a.Refused r) ws = zeros (length ws)
+builtLeft (b.Refused r) q ws = ws
 
-abbrev pub keptCount : Answer → ℕ → ℕ
-keptCount (a.Done n) k = k
-keptCount (a.Refused r) k = 0
-
--- locate of k offsets
-pub record LocatesHits (o : Outcome) (k : ℕ) (r : Answer) (os₀ ms₀ fs₀ as₀ os ms fs as′ : List ℕ) : Type 0 where
-  pub number : answerNumber r ≡ o .number
-  pub count : answerCount r ≡ keptCount r k
-  pub offsets : os ≡ kept r os₀
-  pub indices : ms ≡ kept r ms₀
-  pub further : fs ≡ zeros (length fs₀)
-  pub answers : as′ ≡ padded (length as₀) (o .list)
-
--- four slices cleared
-pub record Cleared (a₀ b₀ c₀ d₀ a₁ b₁ c₁ d₁ : List ℕ) : Type 0 where
-  pub first : a₁ ≡ zeros (length a₀)
-  pub second : b₁ ≡ zeros (length b₀)
-  pub third : c₁ ≡ zeros (length c₀)
-  pub fourth : d₁ ≡ zeros (length d₀)
+pub record Keeps (p : Built) (q : Answer) (r : Found) (zs₀ ts₀ xs₀ ws₀ zs ts xs ws : List ℕ) : Type 0 where
+  pub found : r ≡ foundOf p q
+  pub starts : zs ≡ builtLeft p q zs₀
+  pub triples : ts ≡ builtLeft p q ts₀
+  pub slots : xs ≡ builtLeft p q xs₀
+  pub shares : ws ≡ builtLeft p q ws₀

@@ -9,7 +9,7 @@ use lib.ListN.{getD}
 use Rattle.tinydex.specs.declared.DexHeader.{DexHeader}
 use Rattle.dalvik.specs.CodeItem.{Code}
 use Rattle.dalvik.specs.Instructions.{Kind}
-use Rattle.code_item_scan.specs.Scan.{kindNumber}
+use Rattle.index_width.specs.Kinds.{kindNumber}
 use Rattle.insn_locator.specs.Listing.{listOut}
 use Rattle.demand.specs.Supposed.{Supposed}
 use Rattle.demand.specs.Statement.{Lent, Suffices, ListsMethods, NamesWanted, Lies}

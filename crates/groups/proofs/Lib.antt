@@ -2,6 +2,5 @@ pub mod Lists
 pub mod Groups
 pub mod Keys
 pub mod Steps
-pub mod Slices
 pub mod Built
 pub mod Found

@@ -5,7 +5,7 @@ use native.Mathlib.Omega.{arith}
 use mathlib.Core.List.{List}
 use lib.ListN.{length, getD}
 use borrow.Author.Tests.{lt-ltb, le-ltb, le-leb, lt-leb}
-use Rattle.groups.proofs.Slices as s
+use Rattle.group_slice.proofs.Slices as s
 use Rattle.handover.specs.Group.{bounded, startOf, GroupAt}
 
 module _ (offs ids : List ℕ) (k : ℕ) where

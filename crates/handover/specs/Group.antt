@@ -1,4 +1,4 @@
--- Where the group of a key stands: the stretch of `groups` as a start and a count, 0 and 0 where it has none.
+-- Where the group of a key stands: the stretch of `group_slice` as a start and a count, 0 and 0 where it has none.
 -- Assumes nothing.
 use Prim.Native.Nat.{ℕ, _+_, _-_, _≤_}
 use mathlib.Core.Path.{_≡_}
@@ -6,7 +6,7 @@ use mathlib.Core.List.{List}
 use mathlib.Core.Bool.{Bool, cond, _&&_}
 use lib.ListN.{length, getD, take, drop}
 use lib.Dec.{ltb, leb}
-use Rattle.groups.specs.Stretch.{stretchOf}
+use Rattle.group_slice.specs.Stretch.{stretchOf}
 
 -- the offsets have the key's word and the next, and both are inside the n ids, in this order
 unfoldable pub bounded : List ℕ → ℕ → ℕ → Bool

@@ -1,29 +1,16 @@
 -- What `refs` prints, letter by letter: document 01, "Program".
 -- Assumes nothing.
-use Prim.Native.Nat.{ℕ, zero, suc, _+_, _^_}
+use Prim.Native.Nat.{ℕ}
 use mathlib.Core.List.{List, [], _∷_, _++_}
 use mathlib.Core.Bool.{cond, _&&_}
-use lib.ListN.{length}
 use lib.Dec.{leb, eqb}
-use Rattle.io.specs.Digits.{digits}
 use Rattle.refusal.specs.declared.Refusal.{Refusal}
 use Rattle.refusal.specs.Refusals.{refusalNumber}
-use Rattle.refusal.specs.Outcomes.{Outcome, refused, success}
+use Rattle.refusal.specs.Outcomes.{Outcome, refused}
+use Rattle.text_out.specs.Text.{decimal, feed, textOut}
 use Rattle.request_lines.specs.Lines.{kind=, string′, type′, field′, method′}
 
--- the greatest power of ten, up to the k-th, that is not past n; the 0th where none is
-unfoldable pub reach : ℕ → ℕ → ℕ
-reach zero n = 0
-reach (suc k) n = cond (leb (10 ^ suc k) n) (suc k) (reach k n)
-
--- the digits of n below 10^20, without leading zeros, and 0 as one digit
-unfoldable pub decimal : ℕ → List ℕ
-decimal n = digits 10 (reach 19 n + 1) n
-
 -- the letters
-abbrev pub feed : List ℕ
-feed = 10 ∷ []
-
 abbrev pub hits= : List ℕ
 hits= = 10 ∷ 104 ∷ 105 ∷ 116 ∷ 115 ∷ 61 ∷ []
 
@@ -62,10 +49,7 @@ headText kind hits = kind= ++ kindName kind ++ hits= ++ decimal hits ++ feed
 abbrev pub refusalText : Refusal → List ℕ
 refusalText why = refusal= ++ decimal (refusalNumber why) ++ feed
 
--- the outcome of a text where room bytes are lent
-unfoldable pub textOut : List ℕ → ℕ → Outcome
-textOut text room = cond (leb (length text) room) (success text) (refused 4)
-
+-- the outcomes, where room bytes are lent
 unfoldable pub entryOut : ℕ → ℕ → List ℕ → ℕ → Outcome
 entryOut off idx mids room = textOut (entryText off idx mids) room
 

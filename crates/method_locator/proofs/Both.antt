@@ -20,7 +20,7 @@ use Rattle.refusal.specs.declared.Answer.the-variants as answer
 use Rattle.refusal.specs.Refusals.{tooLarge, refusalNumber, answerNumber, answerCount}
 use Rattle.refusal.proofs.Numbers.{some-number}
 use Rattle.groups.specs.Groups.{idsWith}
-use Rattle.groups.specs.Stretch.{stretchOf}
+use Rattle.group_slice.specs.Stretch.{stretchOf}
 use Rattle.groups.specs.Built as one
 use Rattle.groups.specs.Built.{Groups, groupsOf, passes, short, none}
 use Rattle.groups.proofs.Found.{Sound, sound, sound-groups, sound-offs, sound-ids, refused-groups, left-false, right-false, found}

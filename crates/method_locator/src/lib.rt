@@ -1,7 +1,7 @@
 // The method ids by their class and by their name (method_locator.rs). Thin over `groups`.
 ghost use mathlib.Core.Path.{_≡_};
 ghost use lib.ListN.{length};
-ghost use Rattle.groups.specs.Stretch.{stretchOf};
+ghost use Rattle.group_slice.specs.Stretch.{stretchOf};
 ghost use Rattle.method_locator.specs.Built.{outcome, Gives};
 use groups::Layout;
 use groups::Width;
@@ -75,12 +75,12 @@ pub fn build_map(
 pub fn clz_slice<'a>(clz_offsets: &[u32], clz_mids: &'a [u32], class_idx: u32) -> &'a [u32]
     ensures { λ r. ⌜ now r ≡ stretchOf (now («clz_offsets» .entry)) (now («clz_mids» .entry)) «class_idx» ⌝ }
 {
-    groups::slice(clz_offsets, clz_mids, class_idx)
+    group_slice::slice(clz_offsets, clz_mids, class_idx)
 }
 
 // The methods of a name, as a part of the grouped method ids.
 pub fn name_slice<'a>(name_offsets: &[u32], name_mids: &'a [u32], name_idx: u32) -> &'a [u32]
     ensures { λ r. ⌜ now r ≡ stretchOf (now («name_offsets» .entry)) (now («name_mids» .entry)) «name_idx» ⌝ }
 {
-    groups::slice(name_offsets, name_mids, name_idx)
+    group_slice::slice(name_offsets, name_mids, name_idx)
 }

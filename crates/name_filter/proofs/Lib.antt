@@ -1,5 +1,5 @@
-pub mod Names
-pub mod Faults
 pub mod Listing
-pub mod Matching
-pub mod Memos
+pub mod Marks
+pub mod Gathering
+pub mod Windows
+pub mod Exits

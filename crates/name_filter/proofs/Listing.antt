@@ -1,59 +1,61 @@
--- The named strings are a set with a rising list: of each given index it can be told whether its text has the name.
+-- The named strings, all or those of one table, are a set with a rising list: of each given index it can be told.
 -- Assumes nothing.
-use Prim.Native.Nat.{ℕ, zero, suc, _+_, _≤_, _<_}
+use Prim.Native.Nat.{ℕ, _+_, _≤_, _<_}
 use native.Mathlib.Omega.{arith}
 use mathlib.Core.Path.{_≡_, sym, subst}
 use mathlib.Core.Logic.{_⊎_, inl, inr, ⊎-elim}
-use mathlib.Core.List.{List, [], _∷_, map}
-use lib.ListN.{length}
+use mathlib.Core.List.{List, [], _∷_}
+use lib.ListN.{take}
 use Rattle.rising.specs.Rising.{In}
-use Rattle.rising.proofs.Sets.{below-or-not, in-none, in-here, in-cons, in-cases, Listed, set-none, set-with, set-same}
-use Rattle.string_search.specs.Finds.{Occurs}
-use Rattle.string_search.proofs.Listing.{occurs-or-not}
-use Rattle.name_filter.specs.Names.{lowerCase, HasName, nameText, Named}
+use Rattle.rising.proofs.Sets.{below-or-not, in-none, in-here, in-cons, in-cases, Listed, set-none, set-with, set-same, set-union, set-of-list}
+use Rattle.matches_name.specs.Names.{HasName}
+use Rattle.matches_name.proofs.Listing.{has-or-not}
+use Rattle.name_filter.specs.Names.{nameText, Named, Within, InWindow, HeldOr}
 
--- a text has the name from a place on, or not
-record HasFrom (text q : List ℕ) (from : ℕ) : Type 0 where
-  at : ℕ
-  behind : from ≤ at
-  occurs : Occurs (map lowerCase text) (map lowerCase q) (length text) at
+-- the given indices of a kind
+given-listed : {D : ℕ → Type 0} → ((x : ℕ) → D x ⊎ (D x → ⊥)) → (given : List ℕ) → Listed (λ x. In x given × D x)
+given-listed tell [] = set-none (λ x m. in-none (m .0))
+given-listed {D} tell (i ∷ is) =
+    let l = given-listed tell is in
+    ⊎-elim (λ (d : D i). let w = set-with i l in
+    record {
+      list = w .list;
+      set = set-same (λ x m. ⊎-elim (λ (e : x ≡ i). subst (λ (y : ℕ). In y (i ∷ is) × D y) (sym e) (in-here i is, d)) (λ (n : In x is × D x). (in-cons i (n .0), n .1)) m)
+          (λ x m. ⊎-elim (λ (e : x ≡ i). inl e) (λ (n : In x is). inr (n, m .1)) (in-cases (m .0)))
+          (w .set);
+    })
+    (λ (d : D i → ⊥). record {
+      list = l .list;
+      set = set-same (λ x m. (in-cons i (m .0), m .1)) (λ x m. ⊎-elim (λ (e : x ≡ i). absurd (d (subst D e (m .1)))) (λ (n : In x is). (n, m .1)) (in-cases (m .0))) (l .set);
+    })
+    (tell i)
 
-from-or-not : (text q : List ℕ) (fuel from : ℕ) → length text < from + fuel → HasFrom text q from ⊎ (HasFrom text q from → ⊥)
-from-or-not text q zero from h = inr (λ f. omega (arith, f .behind, f .occurs .inside))
-from-or-not text q (suc fuel) from h =
-    ⊎-elim (λ (o : Occurs (map lowerCase text) (map lowerCase q) (length text) from). inl record { at = from; behind = omega arith; occurs = o })
-    (λ (n : Occurs (map lowerCase text) (map lowerCase q) (length text) from → ⊥).
-    ⊎-elim (λ (f : HasFrom text q (from + 1)). inl record { at = f .at; behind = omega (arith, f .behind); occurs = f .occurs })
-    (λ (f : HasFrom text q (from + 1) → ⊥). inr (λ g. ⊎-elim (λ (l : from < g .at). f record { at = g .at; behind = omega arith; occurs = g .occurs })
-    (λ (l : g .at ≤ from). n (let e : g .at ≡ from = omega (arith, g .behind) in subst (Occurs (map lowerCase text) (map lowerCase q) (length text)) e (g .occurs))) (below-or-not from (g .at))))
-    (from-or-not text q fuel (from + 1) (omega arith)))
-    (occurs-or-not (map lowerCase text) (map lowerCase q) (length text) from)
+pub within-or-not : (base x : ℕ) → Within base x ⊎ (Within base x → ⊥)
+within-or-not base x =
+    ⊎-elim (λ (a : x < base). inr (λ w. omega (arith, w .0)))
+    (λ (a : base ≤ x). ⊎-elim (λ (b : x < base + 131072). inl (a, b)) (λ (b : base + 131072 ≤ x). inr (λ w. omega (arith, w .1))) (below-or-not x (base + 131072)))
+    (below-or-not x base)
 
-pub has-or-not : (text q : List ℕ) → HasName text q ⊎ (HasName text q → ⊥)
-has-or-not text q =
-    ⊎-elim (λ (f : HasFrom text q 0). inl record { at = f .at; occurs = f .occurs }) (λ (f : HasFrom text q 0 → ⊥). inr (λ g. f record { at = g .at; behind = omega arith; occurs = g .occurs }))
-    (from-or-not text q (suc (length text)) 0 (omega arith))
+module _ (s : List ℕ) (table : ℕ) (q given : List ℕ) where
+  pub named-listed : Listed (Named s table q given)
+  named-listed =
+      let l = given-listed (λ x. has-or-not (nameText s table x) q) given in
+      record { list = l .list; set = set-same (λ x m. record { listed = m .0; has = m .1 }) (λ x m. (m .listed, m .has)) (l .set) }
 
-module _ (s : List ℕ) (table : ℕ) (q : List ℕ) where
-  -- the first given index, and the others
-  pub named-cases : (i : ℕ) (is : List ℕ) (x : ℕ) → Named s table q (i ∷ is) x → (x ≡ i) ⊎ Named s table q is x
-  named-cases i is x m = ⊎-elim (λ (e : x ≡ i). inl e) (λ (l : In x is). inr record { listed = l; has = m .has }) (in-cases (m .listed))
+  within-named : (base x : ℕ) → (Within base x × HasName (nameText s table x) q) ⊎ ((Within base x × HasName (nameText s table x) q) → ⊥)
+  within-named base x =
+      ⊎-elim (λ (w : Within base x). ⊎-elim (λ (h : HasName (nameText s table x) q). inl (w, h)) (λ (h : HasName (nameText s table x) q → ⊥). inr (λ m. h (m .1))) (has-or-not (nameText s table x) q))
+      (λ (w : Within base x → ⊥). inr (λ m. w (m .0))) (within-or-not base x)
 
-  pub named-here : (i : ℕ) (is : List ℕ) → HasName (nameText s table i) q → Named s table q (i ∷ is) i
-  named-here i is h = record { listed = in-here i is; has = h }
-
-  pub named-later : (i : ℕ) (is : List ℕ) (x : ℕ) → Named s table q is x → Named s table q (i ∷ is) x
-  named-later i is x m = record { listed = in-cons i (m .listed); has = m .has }
-
-  pub named-none : (x : ℕ) → Named s table q [] x → ⊥
-  named-none x m = in-none (m .listed)
-
-  pub named-listed : (given : List ℕ) → Listed (Named s table q given)
-  named-listed [] = set-none named-none
-  named-listed (i ∷ is) =
-      let l = named-listed is in
-      ⊎-elim (λ (h : HasName (nameText s table i) q). let w = set-with i l in
-      record { list = w .list; set = set-same (λ x m. ⊎-elim (λ (e : x ≡ i). subst (Named s table q (i ∷ is)) (sym e) (named-here i is h)) (λ (n : Named s table q is x). named-later i is x n) m) (named-cases i is) (w .set) })
-      (λ (h : HasName (nameText s table i) q → ⊥).
-      record { list = l .list; set = set-same (named-later i is) (λ x m. ⊎-elim (λ (e : x ≡ i). absurd (h (subst (λ (j : ℕ). HasName (nameText s table j) q) e (m .has)))) (λ (n : Named s table q is x). n) (named-cases i is x m)) (l .set) })
-      (has-or-not (nameText s table i) q)
+  -- .. with words that are held
+  pub held-listed : (base n : ℕ) (w : List ℕ) → Listed (HeldOr n w (InWindow s table q given base))
+  held-listed base n w =
+      let l = given-listed (within-named base) given in
+      let u = set-union (set-of-list (take n w)) (l .list) in
+      record {
+        list = u .list;
+        set = set-same
+            (λ x m. ⊎-elim (λ (i : In x (take n w)). inl i) (λ (i : In x (l .list)). let k = l .set .sound x i in inr record { within = k .1 .0; named = record { listed = k .0; has = k .1 .1 } }) m)
+            (λ x m. ⊎-elim (λ (i : In x (take n w)). inl i) (λ (i : InWindow s table q given base x). inr (l .set .complete x (i .named .listed, (i .within, i .named .has)))) m)
+            (u .set);
+      }

@@ -1,8 +1,5 @@
 // The program `refs`: document 01, "Program". It reads `input.dex` and the request, finds, lists every entry's slot, and only then prints:
 // a refusal of any step prints its line and nothing else. Where `input.dex` cannot be opened, that is said on standard error.
-ghost use lib.ListN.{length};
-ghost use Rattle.refusal.specs.Outcomes.{Gives};
-ghost use Rattle.refs_program.specs.Line.{lineOut, lineAt, Tries};
 use findrefs::Found;
 use libc::STDIN_FILENO;
 use libc::STDOUT_FILENO;
@@ -10,43 +7,6 @@ use refusal::Answer;
 use refusal::Refusal;
 use request::Request;
 use tinydex::DexHeader;
-
-// ---- the line of an entry
-
-// The slot's methods listed, and the entry's line with them.
-fn line(off: u32, idx: u32, slot: u32, shares: &[u32], mids: &mut [u32], text: &mut [u8]) -> Answer
-    ensures { λ r. ⌜ Gives (lineOut off idx slot (now (shares .entry)) (length (now (mids .entry))) (length (now (text .entry)))) r (now (text .entry)) (now (text .exit)) ⌝ }
-{
-    match slot_listing::list_slot(shares, slot, mids) {
-        Answer::Refused(why) => {
-            listing_text::clear(text);
-            Answer::Refused(why)
-        }
-        Answer::Done(n) => listing_text::entry(off, idx, &mids[..n], text),
-    }
-}
-
-// The line of the entry at i.
-fn line_at(
-    offs: &[u32],
-    marks: &[u32],
-    answers: &[u32],
-    shares: &[u32],
-    i: usize,
-    mids: &mut [u32],
-    text: &mut [u8],
-) -> Answer
-    ensures { λ r. ⌜ Gives (lineAt (now (offs .entry)) (now (marks .entry)) (now (answers .entry)) (now (shares .entry)) (length (now (mids .entry))) (length (now (text .entry))) i) r (now (text .entry)) (now (text .exit)) ⌝ }
-{
-    line(
-        words::word_at(offs, i),
-        words::word_at(marks, i),
-        words::word_at(answers, i),
-        shares,
-        mids,
-        text,
-    )
-}
 
 // ---- printing
 
@@ -97,7 +57,7 @@ fn print_line(
     mids: &mut [u32],
     text: &mut [u8],
 ) {
-    let answer = line_at(offs, marks, answers, shares, i, mids, text);
+    let answer = entry_lines::line_at(offs, marks, answers, shares, i, mids, text);
     print(answer, text);
 }
 
@@ -116,27 +76,6 @@ fn print_lines(
     }
 }
 
-// How many entries there are, or the first refusal among their lines: known before anything is printed.
-fn try_lines(
-    offs: &[u32],
-    marks: &[u32],
-    answers: &[u32],
-    shares: &[u32],
-    mids: &mut [u32],
-    text: &mut [u8],
-) -> Answer
-    ensures { λ r. ⌜ Tries (lineAt (now (offs .entry)) (now (marks .entry)) (now (answers .entry)) (now (shares .entry)) (length (now (mids .entry))) (length (now (text .entry)))) (length (now (offs .entry))) r ⌝ }
-{
-    let mut i = 0;
-    while i < offs.len() {
-        if let Answer::Refused(why) = line_at(offs, marks, answers, shares, i, mids, text) {
-            return Answer::Refused(why);
-        }
-        i += 1;
-    }
-    Answer::Done(i)
-}
-
 fn print_entries(
     kind: u32,
     offs: &[u32],
@@ -146,7 +85,7 @@ fn print_entries(
     mids: &mut [u32],
     text: &mut [u8],
 ) {
-    match try_lines(offs, marks, answers, shares, mids, text) {
+    match entry_lines::try_lines(offs, marks, answers, shares, mids, text) {
         Answer::Refused(why) => print_refusal(why),
         Answer::Done(hits) => {
             print_head(kind, hits, text);
@@ -164,34 +103,15 @@ fn print_found(kind: u32, offs: &[u32], marks: &[u32], answers: &[u32], shares: 
 
 // ---- finding
 
-fn find(
-    file: &[u8],
-    header: DexHeader,
+fn print_answer(
+    found: Found,
     kind: u32,
-    wanted: &[u32],
-    starts: &mut [u32],
-    triples: &mut [u32],
-    slots: &mut [u32],
-    shares: &mut [u32],
-    offs: &mut [u32],
-    marks: &mut [u32],
-    further: &mut [u32],
-    answers: &mut [u32],
+    offs: &[u32],
+    marks: &[u32],
+    answers: &[u32],
+    shares: &[u32],
 ) {
-    match findrefs::find(
-        file,
-        header,
-        kind,
-        wanted,
-        starts,
-        triples,
-        slots,
-        shares,
-        offs,
-        marks,
-        further,
-        answers,
-    ) {
+    match found {
         Found::Refused(why) => print_refusal(why),
         Found::Done { region: _, hits } => {
             print_found(kind, first(offs, hits), marks, answers, shares)
@@ -199,7 +119,7 @@ fn find(
     }
 }
 
-// The eight slices that are lent, of 4,096 words each.
+// Eight slices are lent, of 4,096 words each.
 fn search(file: &[u8], header: DexHeader, kind: u32, wanted: &[u32]) {
     let mut starts = [0u32; 4096];
     let mut triples = [0u32; 4096];
@@ -209,7 +129,7 @@ fn search(file: &[u8], header: DexHeader, kind: u32, wanted: &[u32]) {
     let mut marks = [0u32; 4096];
     let mut further = [0u32; 4096];
     let mut answers = [0u32; 4096];
-    find(
+    let found = findrefs::find(
         file,
         header,
         kind,
@@ -223,6 +143,7 @@ fn search(file: &[u8], header: DexHeader, kind: u32, wanted: &[u32]) {
         &mut further,
         &mut answers,
     );
+    print_answer(found, kind, &offs, &marks, &answers, &shares);
 }
 
 fn answer(file: &[u8], text: &[u8], wanted: &mut [u32]) {

@@ -7,10 +7,11 @@ use mathlib.Core.Path.{_≡_, refl, sym, ap, ap₂, _∙_}
 use mathlib.Core.List.{List, [], _∷_}
 use lib.ListN.{length, set}
 use lib.Seq.{sets}
-use Rattle.request_lines.specs.Numbers.{numberAt, onNumber}
-use Rattle.request_lines.specs.Lines.{wordAt, lineEnd, onPlace, comma}
-use Rattle.request_lines.specs.declared.Number.the-variants as n
-use Rattle.request_lines.specs.declared.Place.the-variants as p
+use Rattle.text_in.specs.Numbers.{numberAt, onNumber}
+use Rattle.text_in.specs.Words.{wordAt, lineEnd, onPlace}
+use Rattle.request_lines.specs.Lines.{comma}
+use Rattle.text_in.specs.declared.Number.the-variants as n
+use Rattle.text_in.specs.declared.Place.the-variants as p
 use Rattle.request.specs.Request.{Listed, listed, none, consTo, indicesAt, indexLine, index=, ended, Stored, kept, nothing, stored, view}
 use Rattle.request.specs.declared.Indices.{Indices}
 use Rattle.request.specs.declared.Indices.the-variants as x

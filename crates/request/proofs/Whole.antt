@@ -13,12 +13,13 @@ use Rattle.words.proofs.Padded.{padded-none, sets-zeros}
 use Rattle.refusal.specs.declared.Refusal.{Refusal}
 use Rattle.refusal.specs.declared.Refusal.the-variants.{LentTooShort, BadRequest}
 use Rattle.tinydex.specs.declared.DexHeader.{DexHeader}
-use Rattle.request_lines.specs.Numbers.{numberAt, onNumber}
-use Rattle.request_lines.specs.Lines.{wordAt, lineEnd, onPlace, comma, kindLine}
-use Rattle.request_lines.specs.declared.Number.{Number}
-use Rattle.request_lines.specs.declared.Number.the-variants as n
-use Rattle.request_lines.specs.declared.Place.{Place}
-use Rattle.request_lines.specs.declared.Place.the-variants as p
+use Rattle.text_in.specs.Numbers.{numberAt, onNumber}
+use Rattle.text_in.specs.Words.{wordAt, lineEnd, onPlace}
+use Rattle.request_lines.specs.Lines.{comma, kindLine}
+use Rattle.text_in.specs.declared.Number.{Number}
+use Rattle.text_in.specs.declared.Number.the-variants as n
+use Rattle.text_in.specs.declared.Place.{Place}
+use Rattle.text_in.specs.declared.Place.the-variants as p
 use Rattle.request.specs.Request.{headerLines, Listed, listed, none, consTo, indicesAt, index=, indexLine, ended, Stored, stored, view, Outcome, refusedBy, asked, requestOf, Says}
 use Rattle.request.specs.declared.Header.the-variants as h
 use Rattle.request.specs.declared.Indices.the-variants as x

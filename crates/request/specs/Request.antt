@@ -11,8 +11,10 @@ use Rattle.words.specs.Padded.{padded}
 use Rattle.refusal.specs.declared.Refusal.{Refusal}
 use Rattle.refusal.specs.declared.Refusal.the-variants.{LentTooShort, BadRequest}
 use Rattle.tinydex.specs.declared.DexHeader.{DexHeader}
-use Rattle.request_lines.specs.Numbers.{numberAt, onNumber}
-use Rattle.request_lines.specs.Lines.{wordAt, lineEnd, onPlace, pairLine, onPair, numberLine, kindLine, comma}
+use Rattle.tinydex.specs.declared.Table.{Table}
+use Rattle.text_in.specs.Numbers.{numberAt, onNumber}
+use Rattle.text_in.specs.Words.{wordAt, lineEnd, onPlace}
+use Rattle.request_lines.specs.Lines.{pairLine, onPair, numberLine, kindLine, comma}
 use Rattle.request.specs.declared.Header.{Header}
 use Rattle.request.specs.declared.Header.the-variants as h
 use Rattle.request.specs.declared.Indices.{Indices}
@@ -45,17 +47,22 @@ mapoff= = 109 ∷ 97 ∷ 112 ∷ 111 ∷ 102 ∷ 102 ∷ 61 ∷ []
 abbrev pub index= : List ℕ
 index= = 105 ∷ 110 ∷ 100 ∷ 101 ∷ 120 ∷ 61 ∷ []
 
+-- the record's last four lines, in their order, behind those of the three tables given
+unfoldable pub restLines : Table → Table → Table → List ℕ → ℕ → Header
+restLines strings types prototypes s i =
+    onPair (pairLine fields= s i) h.Nothing (λ fields a.
+    onPair (pairLine methods= s a) h.Nothing (λ methods b.
+    onPair (pairLine classes= s b) h.Nothing (λ classes c.
+    onNumber (numberLine mapoff= s c) h.Nothing (λ mapoff d.
+    h.At (record { strings = strings; types = types; prototypes = prototypes; fields = fields; methods = methods; classes = classes; mapoff = mapoff }) d))))
+
 -- the record's lines, in their order
 unfoldable pub headerLines : List ℕ → Header
 headerLines s =
     onPair (pairLine strings= s 0) h.Nothing (λ strings a.
     onPair (pairLine types= s a) h.Nothing (λ types b.
     onPair (pairLine prototypes= s b) h.Nothing (λ prototypes c.
-    onPair (pairLine fields= s c) h.Nothing (λ fields d.
-    onPair (pairLine methods= s d) h.Nothing (λ methods e.
-    onPair (pairLine classes= s e) h.Nothing (λ classes f.
-    onNumber (numberLine mapoff= s f) h.Nothing (λ mapoff g.
-    h.At (record { strings = strings; types = types; prototypes = prototypes; fields = fields; methods = methods; classes = classes; mapoff = mapoff }) g)))))))
+    restLines strings types prototypes s c)))
 
 -- a list of numbers and the place behind it, or none
 pub data Listed : Type 0 where

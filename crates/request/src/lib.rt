@@ -1,12 +1,13 @@
 // The request of the program `refs`, whole: document 01, "Program". The header record's seven lines, the kind and the wanted indices.
 ghost use mathlib.Core.Path.{_≡_};
-ghost use Rattle.request.specs.Request.{headerLines, indicesAt, indexLine, stored, view, mostIndices, requestOf, Says};
+ghost use Rattle.request.specs.Request.{headerLines, restLines, indicesAt, indexLine, stored, view, mostIndices, requestOf, Says};
 ghost use lib.ListN.{length};
 use refusal::Refusal;
-use request_lines::Number;
 use request_lines::Pair;
-use request_lines::Place;
+use text_in::Number;
+use text_in::Place;
 use tinydex::DexHeader;
+use tinydex::Table;
 
 // The record, and the place behind its lines.
 enum Header {
@@ -54,31 +55,38 @@ fn header_lines(text: &[u8]) -> Header
     else {
         return Header::Nothing;
     };
+    rest_lines(text, c, strings, types, prototypes)
+}
+
+// The record's further lines, behind those of the first three tables.
+fn rest_lines(text: &[u8], at: usize, strings: Table, types: Table, prototypes: Table) -> Header
+    ensures { λ r. ⌜ r ≡ restLines strings types prototypes (now (text .entry)) at ⌝ }
+{
     let Pair::At {
         table: fields,
-        next: d,
-    } = request_lines::pair_line(text, c, b"fields=")
+        next: a,
+    } = request_lines::pair_line(text, at, b"fields=")
     else {
         return Header::Nothing;
     };
     let Pair::At {
         table: methods,
-        next: e,
-    } = request_lines::pair_line(text, d, b"methods=")
+        next: b,
+    } = request_lines::pair_line(text, a, b"methods=")
     else {
         return Header::Nothing;
     };
     let Pair::At {
         table: classes,
-        next: f,
-    } = request_lines::pair_line(text, e, b"classes=")
+        next: c,
+    } = request_lines::pair_line(text, b, b"classes=")
     else {
         return Header::Nothing;
     };
     let Number::Value {
         value: mapoff,
-        next: g,
-    } = request_lines::number_line(text, f, b"mapoff=")
+        next: d,
+    } = request_lines::number_line(text, c, b"mapoff=")
     else {
         return Header::Nothing;
     };
@@ -92,7 +100,7 @@ fn header_lines(text: &[u8]) -> Header
             classes: classes,
             mapoff: mapoff,
         },
-        next: g,
+        next: d,
     }
 }
 
@@ -103,12 +111,12 @@ fn read_indices(text: &[u8], at: usize, wanted: &mut [u32]) -> Indices
     let mut i = at;
     let mut n: usize = 0;
     while n < 16 {
-        let Number::Value { value: v, next: p } = request_lines::read_number(text, i) else {
+        let Number::Value { value: v, next: p } = text_in::read_number(text, i) else {
             return Indices::Nothing;
         };
         words::put(wanted, n, v);
         n += 1;
-        let Place::At(q) = request_lines::read_word(text, p, b",") else {
+        let Place::At(q) = text_in::read_word(text, p, b",") else {
             return Indices::Read { count: n, next: p };
         };
         i = q;
@@ -153,13 +161,13 @@ pub fn read_request(text: &[u8], wanted: &mut [u32]) -> Request
 fn index_line(text: &[u8], at: usize, wanted: &mut [u32]) -> Indices
     ensures { λ r. ⌜ view r (now (wanted .exit)) ≡ stored 0 (now (wanted .entry)) (indexLine (now (text .entry)) at) ⌝ }
 {
-    let Place::At(a) = request_lines::read_word(text, at, b"index=") else {
+    let Place::At(a) = text_in::read_word(text, at, b"index=") else {
         return Indices::Nothing;
     };
     let Indices::Read { count, next: b } = read_indices(text, a, wanted) else {
         return Indices::Nothing;
     };
-    let Place::At(c) = request_lines::read_line_end(text, b) else {
+    let Place::At(c) = text_in::read_line_end(text, b) else {
         return Indices::Nothing;
     };
     Indices::Read {

@@ -1,10 +1,12 @@
 -- Finds. There is one first occurrence from a place on, so the finds from there are it and those from its end on.
---     ahead-start, ahead-next, ahead-found, ahead-none   the search goes by places of the first and last byte
+--     decided-yes, decided-no                      a test, by its answer
+--     nearer, ahead-start, ahead-next, ahead-found, ahead-none   the search goes by places of the first and last byte
 --     find-occurs, find-behind, finds-apart        every find is an occurrence, and two share no byte
 --     owned-first, first-owned, later-owned        the owners from a find on
 -- Assumes nothing.
 use Prim.Native.Nat.{ℕ, _+_, _-_, _≤_, _<_, min}
 use mathlib.Core.Path.{_≡_, ap, sym, subst, _∙_}
+use mathlib.Core.Bool.{true, false}
 use mathlib.Core.Logic.{_⊎_, inl, inr, ⊎-elim}
 use mathlib.Core.List.{List}
 use lib.ListN.{length, getD, take, drop, length-take, length-drop}
@@ -12,11 +14,19 @@ use lib.Seq.{ext-getD, getD-take, getD-drop}
 use native.Mathlib.Omega.{arith}
 use Rattle.memchr.specs.First as Jump
 use Rattle.memchr.specs.First.{Both}
+use Rattle.memchr.proofs.Firsts.{onward}
 use Rattle.rising.proofs.Sets.{below-or-not}
 use Rattle.string_search.specs.declared.Owner.the-variants.{Entry, Absent}
 use Rattle.string_search.specs.Finds.{Stands, Occurs, First, Find, leftmost, further}
 use Rattle.string_search.specs.Keys.{owner}
-use Rattle.string_search.specs.Search.{OwnsFrom}
+use Rattle.string_search.specs.Search.{OwnsFrom, Decides}
+
+-- a test, by its answer
+pub decided-yes : {P : Type 0} → P → Decides P true
+decided-yes p = record { yes = λ e. p; no = λ e. absurd (let z : _≡_ {A = ℕ} 0 1 = cc in omega arith) }
+
+pub decided-no : {P : Type 0} → (P → ⊥) → Decides P false
+decided-no n = record { yes = λ e. absurd (let z : _≡_ {A = ℕ} 0 1 = cc in omega arith); no = λ e. n }
 
 -- bytes, one by one
 pub stands-bytes : (s q : List ℕ) (p : ℕ) → p + length q ≤ length s → ((k : ℕ) → k < length q → getD s (p + k) 0 ≡ getD q k 0) → Stands s q p
@@ -42,6 +52,10 @@ pub record Ahead (s q : List ℕ) (e from p : ℕ) : Type 0 where
   pub inside : p ≤ e - (length q - 1)
   pub behind : p < e - (length q - 1) → from ≤ p
   pub none-before : (k : ℕ) → from ≤ k → k < p → Occurs s q e k → ⊥
+
+-- the next such place is nearer the end e
+pub nearer : {P : ℕ → Type 0} {e n r : ℕ} (p d : ℕ) → e ≤ n → p + d < e → Jump.First P (p + 1) (min e n - d) r → e - r < e - p
+nearer {r = r} p d h m f = let o : p + 1 ≤ r = onward (omega arith) f in omega arith
 
 module _ {s q : List ℕ} {e from : ℕ} (h : 0 < length q) (l : e ≤ length s) where
   pub ahead-start : {p : ℕ} → Jump.First (Ends s q) from (min e (length s) - (length q - 1)) p → Ahead s q e from p

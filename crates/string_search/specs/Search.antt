@@ -17,7 +17,8 @@ use Rattle.string_search.specs.declared.Owner.the-variants.{Entry, Absen
 use Rattle.string_search.specs.declared.Fault.{Fault}
 use Rattle.string_search.specs.declared.Fault.the-variants as f
 use Rattle.string_search.specs.Finds.{Find}
-use Rattle.string_search.specs.Keys.{owner, goodKeys}
+use Rattle.string_keys.specs.Keys.{goodKeys}
+use Rattle.string_search.specs.Keys.{owner}
 
 -- string x owns a find of q from `from` on, before e. The find may begin in the string's length bytes
 pub record OwnsFrom (s ks q : List ℕ) (e from x : ℕ) : Type 0 where

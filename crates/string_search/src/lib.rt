@@ -10,7 +10,7 @@ ghost use Rattle.words.specs.Padded.{zeros};
 ghost use Rattle.words.specs.Rising.{Rising};
 ghost use Rattle.rising.specs.Found.{Found, Matched};
 ghost use Rattle.string_search.specs.Finds.{Stands, NextFind};
-ghost use Rattle.string_search.specs.Keys.{owner, goodKeys};
+ghost use Rattle.string_search.specs.Keys.{owner};
 ghost use Rattle.string_search.specs.Search.{Decides, Ready, Searched, Stepped, OwnsFrom, Owns, faultNumber, searchFault};
 
 // The string in which a find begins: the entry of a key, by its index, or none.
@@ -113,26 +113,6 @@ fn match_string_offset(
     }
 }
 
-// Whether the keys rise strictly and none has the index 2^32 - 1.
-fn keys_good(keys: &[u64]) -> bool
-    ensures { λ r. ⌜ r ≡ goodKeys (now (keys .entry)) ⌝ }
-{
-    let mut least: u64 = 0;
-    let mut i = 0;
-    while i < keys.len() {
-        let k = keys[i];
-        if k < least {
-            return false;
-        }
-        if k % 4294967296 == 4294967295 {
-            return false;
-        }
-        least = k + 1;
-        i += 1;
-    }
-    true
-}
-
 // The faults that the searches share, in order, for a query of so many bytes, of which the operation asks `shortest` at least.
 pub fn search_fault(file: &[u8], shortest: usize, bytes: usize, keys: &[u64]) -> Fault
     ensures { λ r. ⌜ faultNumber r ≡ searchFault (length (now (file .entry))) shortest bytes (now (keys .entry)) ⌝ }
@@ -146,7 +126,7 @@ pub fn search_fault(file: &[u8], shortest: usize, bytes: usize, keys: &[u64]) ->
     if 255 < bytes {
         return Fault::Refused(Refusal::BadQuery);
     }
-    if keys_good(keys) {
+    if string_keys::keys_good(keys) {
         return Fault::Nothing;
     }
     Fault::Refused(Refusal::LentTable)

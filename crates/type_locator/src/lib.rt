@@ -2,7 +2,7 @@
 ghost use mathlib.Core.Path.{_≡_};
 ghost use lib.ListN.{length};
 ghost use Rattle.dalvik.specs.Ids.{typeIdSize, type-descriptor-idx as descriptorIdx};
-ghost use Rattle.groups.specs.Stretch.{stretchOf};
+ghost use Rattle.group_slice.specs.Stretch.{stretchOf};
 ghost use Rattle.groups.specs.Built.{outcome, Gives};
 use groups::Layout;
 use groups::Width;
@@ -38,5 +38,5 @@ pub fn build_map(
 pub fn types_of<'a>(str_offsets: &[u32], type_idxs: &'a [u32], str_idx: u32) -> &'a [u32]
     ensures { λ r. ⌜ now r ≡ stretchOf (now («str_offsets» .entry)) (now («type_idxs» .entry)) «str_idx» ⌝ }
 {
-    groups::slice(str_offsets, type_idxs, str_idx)
+    group_slice::slice(str_offsets, type_idxs, str_idx)
 }

@@ -13,7 +13,7 @@ use lib.Dec.{eqb}
 use borrow.Author.Tests.{lt-ltb, le-ltb}
 use Rattle.refusal.specs.declared.Refusal.{Refusal}
 use Rattle.refusal.specs.Refusals.{refusalNumber}
-use Rattle.groups.specs.Stretch.{stretchOf}
+use Rattle.group_slice.specs.Stretch.{stretchOf}
 use Rattle.words.specs.Rising.{Rising}
 use Rattle.rising.specs.Rising.{In, SetOf}
 use Rattle.rising.specs.Found.{Matched}

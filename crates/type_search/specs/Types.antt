@@ -9,7 +9,7 @@ use lib.ListN.{length, take}
 use lib.Dec.{eqb, ltb}
 use Rattle.words.specs.Padded.{padded, zeros}
 use Rattle.refusal.specs.declared.Answer.{Answer}
-use Rattle.groups.specs.Stretch.{stretchOf}
+use Rattle.group_slice.specs.Stretch.{stretchOf}
 use Rattle.words.specs.Rising.{Rising}
 use Rattle.rising.specs.Rising.{In, SetOf}
 use Rattle.rising.specs.Found.{Found}

@@ -33,8 +33,11 @@ fn collect(str_offsets: &[u32], type_idxs: &[u32], found: &[u32], out: &mut [u32
     let mut n = 0;
     let mut i = 0;
     while i < found.len() {
-        let Insertion::Held(m) = extend(out, n, groups::slice(str_offsets, type_idxs, found[i]))
-        else {
+        let Insertion::Held(m) = extend(
+            out,
+            n,
+            group_slice::slice(str_offsets, type_idxs, found[i]),
+        ) else {
             return Insertion::Full;
         };
         n = m;

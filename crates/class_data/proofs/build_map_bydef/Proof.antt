@@ -5,8 +5,8 @@ use native.Mathlib.Omega.{arith}
 use Rattle.class_data.proofs.build_map_bydef.Statement.{statement}
 use Rattle.class_data.proofs.build_map_bydef.Tie as tie
 use mathlib.Core.Path.{refl}
-use Rattle.class_data.proofs.Items.{ByDef, def-told, def-refused, defined-again, defined-no, defined-end}
-use Rattle.class_data.proofs.Kept.{found-seen, refused-seen}
+use Rattle.class_data.proofs.Items.{ByDef, def-told, def-refused, bydef-again, defined-no, defined-end}
+use Rattle.class_data_parse.proofs.Kept.{found-seen, refused-seen}
 
 abbrev Inv-loop : tie.InvT-loop
 Inv-loop buf methods triples₀ starts₀ at₀ left₀ count₀ triples starts at left count = ByDef buf methods left₀ at₀ triples₀ starts₀ triples starts at left count
@@ -36,7 +36,7 @@ loop-less : tie.Need-loop-less Inv-loop μ-loop
 loop-less c = search needs
 
 loop-again : tie.Need-loop-again Inv-loop μ-loop
-loop-again c = let x = c .before .before .before .before .before .before .before .before .before .before .before .loop .inv in let g = def-told _ _ _ _ _ _ _ _ _ (c .before .before .before .before .before .before .before .class-def .ensures) _ _ (c .before .found .given .1) in record { rest = defined-again _ _ _ _ _ _ _ _ _ _ _ (omega arith) g (x .rest); most = omega arith; place = omega arith; few = omega arith; long = omega arith; wide = omega arith }
+loop-again c = bydef-again _ _ _ _ _ _ _ _ _ _ _ (c .before .before .before .before .before .before .before .before .before .before .before .loop .inv) (c .before .before .before .before .before .before .before .before .before .before .before .before .before .before .before .before .pre) (c .before .before .before .before .before .before .before .before .before .before .loop-test .taken) _ _ _ (def-told _ _ _ _ _ _ _ _ _ (c .before .before .before .before .before .before .before .class-def .ensures) _ _ (c .before .found .given .1)) (c .before .before .before .before .starts .given) (c .before .before .before .before .before .before .triples .given)
 
 enum-known-r : tie.Need-enum-known-r Inv-loop μ-loop
 enum-known-r c = search needs

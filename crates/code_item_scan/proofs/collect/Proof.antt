@@ -1,6 +1,6 @@
 use mathlib.Core.Path.{sym, _∙_}
-use Rattle.code_item_scan.specs.Answers.{meant}
-use Rattle.code_item_scan.proofs.Hits.{strings-only}
+use Rattle.index_width.specs.Kinds.{meant}
+use Rattle.index_width.proofs.Widths.{strings-only}
 use borrow.Author.Needs.{needs}
 use Rattle.code_item_scan.proofs.collect.Statement.{statement}
 use Rattle.code_item_scan.proofs.collect.Tie as tie

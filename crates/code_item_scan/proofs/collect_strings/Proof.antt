@@ -1,12 +1,11 @@
-use mathlib.Core.Path.{_≡_, refl, ap, sym, _∙_}
-use Prim.Native.Nat.{_-_, _≤_, _<_}
-use lib.ListN.{length}
+-- `code_item_scan::collect_strings` meets its contract: at each start that is not skipped the hits stored and those still to come are all.
+-- Assumes nothing.
+use mathlib.Core.Path.{refl, _∙_}
+use Prim.Native.Nat.{_-_}
 use Rattle.dalvik.specs.Instructions.Kind.{strings}
-use mathlib.Core.Logic.{⊎-elim}
 use Rattle.code_item_scan.specs.Scan.{hitsOf}
 use Rattle.code_item_scan.specs.Steps.{hitsFrom}
-use Rattle.code_item_scan.specs.Answers.{marked}
-use Rattle.code_item_scan.proofs.Hits.{Going, going-start, going-same, going-hit, going-end, hits-of, no-hits, string-hit-skip, string-none-skip}
+use Rattle.code_item_scan.proofs.Hits.{Going, going-start, string-on, going-end, hits-of, no-hits}
 use borrow.Author.Needs.{needs}
 use native.Mathlib.Omega.{arith}
 use Rattle.code_item_scan.proofs.collect_strings.Statement.{statement}
@@ -14,27 +13,22 @@ use Rattle.code_item_scan.proofs.collect_strings.Tie as tie
 
 abbrev Inv-loop : tie.InvT-loop
 Inv-loop s start end wanted offs₀ marks₀ places at₀ n₀ offs marks at n =
-    Going (hitsOf s strings wanted start end) offs₀ marks₀ (hitsFrom s strings wanted start end at) offs marks n
-    × (at ≤ end) × (n ≤ at) × (length offs ≡ length offs₀) × (length marks ≡ length marks₀)
+    Going (hitsOf s strings wanted start end) offs₀ marks₀ end (hitsFrom s strings wanted start end at) offs marks at n
 
 abbrev μ-loop : tie.MeasureT-loop
 μ-loop s start end wanted offs₀ marks₀ places at₀ n₀ offs marks at n = end - at
 
 places-of-requires : tie.Need-places-of-requires Inv-loop μ-loop
-places-of-requires c κs = search needs
+places-of-requires c κs = refl
 
 skip-requires : tie.Need-skip-requires Inv-loop μ-loop
 skip-requires c κs = search needs
 
 loop-holds : tie.Need-loop-holds Inv-loop μ-loop
 loop-holds c =
-    let a = c .before .before .before .before .before .before .before .args in (
-      going-same (going-start _ (a .offs .now) (a .marks .now)) (hits-of (a .s .now) strings (a .wanted .now) (a .start) (a .end) ∙ c .skip .ensures .same (a .wanted .now) (a .start)) refl refl refl,
-      c .skip .ensures .inside,
-      omega arith,
-      refl,
-      refl,
-    )
+    let a = c .before .before .before .before .before .before .before .args in
+    let j = c .skip .ensures in
+    going-start (hits-of (a .s .now) strings (a .wanted .now) (a .start) (a .end) ∙ j .same (a .wanted .now) (a .start)) (j .inside)
 
 sub-loop : tie.Need-sub-loop Inv-loop μ-loop
 sub-loop c = search needs
@@ -42,23 +36,8 @@ sub-loop c = search needs
 string-hit-requires : tie.Need-string-hit-requires Inv-loop μ-loop
 string-hit-requires c κs = (omega arith, omega arith, c .before .before .before .before .places-of .ensures)
 
-enum-known-h : tie.Need-enum-known-h Inv-loop μ-loop
-enum-known-h c = search needs
-
-cast-put : tie.Need-cast-put Inv-loop μ-loop
-cast-put c = search needs
-
-put-requires : tie.Need-put-requires Inv-loop μ-loop
-put-requires c κs = search needs
-
-put-requires-2 : tie.Need-put-requires-2 Inv-loop μ-loop
-put-requires-2 c κs = search needs
-
-add-n : tie.Need-add-n Inv-loop μ-loop
-add-n c = search needs
-
-enum-told : tie.Need-enum-told Inv-loop μ-loop
-enum-told c = search needs
+store-requires : tie.Need-store-requires Inv-loop μ-loop
+store-requires c κs = search needs
 
 add-skip : tie.Need-add-skip Inv-loop μ-loop
 add-skip c = search needs
@@ -71,28 +50,9 @@ loop-less c = search needs
 
 loop-again : tie.Need-loop-again Inv-loop μ-loop
 loop-again c =
-    let a = c .before .before .before .before .before .before .before .before .before .before .before .before .before .args in
-    let k = c .before .before .before .before .before .loop in
-    let j = c .skip2 .ensures in
-    let h : k .at < a .end = omega arith in
-    ⊎-elim
-    (λ w. (
-      going-hit {p = k .at} {x = w .1 .given .0 .0} (k .inv .0) (string-hit-skip (a .s .now) (a .wanted .now) (a .start) (a .end) (k .at) _ h j (w .1 .given .0 .0) (ap marked (sym (w .1 .given .1)) ∙ c .before .before .string-hit .ensures))
-          (w .11 ∙ w .4 .ensures) (w .12 ∙ w .8 .ensures) (w .13),
-      j .inside,
-      omega (arith, j .onward),
-      omega (arith, ap length (w .11), w .4 .kept .0),
-      omega (arith, ap length (w .12), w .8 .kept .0),
-    ))
-    (λ w. (
-      going-same (k .inv .0) (string-none-skip (a .s .now) (a .wanted .now) (a .start) (a .end) (k .at) _ h j (ap marked (sym (w .1 .given .1)) ∙ c .before .before .string-hit .ensures))
-          (w .2) (w .3) (w .4),
-      j .inside,
-      omega (arith, j .onward),
-      omega (arith, ap length (w .2)),
-      omega (arith, ap length (w .3)),
-    ))
-    (c .before .match .came)
+    let a = c .before .before .before .before .before .before .before .before .before .before .before .before .before .before .before .before .before .before .before .args in
+    string-on (a .s .now) (a .wanted .now) (a .start) (c .before .before .before .before .before .before .before .before .before .before .before .loop .inv) (c .before .before .before .before .before .before .before .before .before .before .loop-test .taken) (c .before .before .before .before .before .before .before .before .string-hit .ensures) (c .before .before .before .before .before .store .ensures)
+    (c .skip2 .ensures)
 
 same-length : tie.Need-same-length Inv-loop μ-loop
 same-length c = search needs
@@ -104,7 +64,7 @@ returns : tie.Need-returns Inv-loop μ-loop
 returns c =
     let a = c .before .before .before .before .before .before .before .before .before .args in
     let k = c .before .loop in
-    going-end (k .inv .0) (no-hits (a .s .now) strings (a .wanted .now) (a .start) (a .end) (k .at) (omega arith))
+    going-end (k .inv) (no-hits (a .s .now) strings (a .wanted .now) (a .start) (a .end) (k .at) (omega arith))
 
 pub collect-strings-spec : {M : Type 1} → statement M
 collect-strings-spec =
@@ -117,12 +77,7 @@ collect-strings-spec =
     loop-holds
     sub-loop
     string-hit-requires
-    enum-known-h
-    cast-put
-    put-requires
-    put-requires-2
-    add-n
-    enum-told
+    store-requires
     add-skip
     skip-requires-2
     loop-less

@@ -1,6 +1,6 @@
 use mathlib.Core.Path.{sym, _∙_}
 use Prim.Native.Nat.{_-_}
-use Rattle.code_item_scan.specs.Answers.{meant}
+use Rattle.index_width.specs.Kinds.{meant}
 use Rattle.code_item_scan.proofs.Hits.{even-hit-unwanted, even-hit-other, even-hit-wanted}
 use borrow.Author.Needs.{needs}
 use Rattle.code_item_scan.proofs.even_hit.Statement.{statement}

@@ -1,4 +1,4 @@
-use Rattle.code_item_scan.specs.Answers.{meant}
+use Rattle.index_width.specs.Kinds.{meant}
 use Rattle.code_item_scan.specs.Scan.{hitsOf}
 use Rattle.code_item_scan.proofs.Whole.{admitted-region, admitted-scan, admitted-refusal, gives-refused, gives-settled}
 use lib.ListN.{length}
@@ -21,7 +21,7 @@ enum-known-a-2 c = search needs
 collect-requires : tie.Need-collect-requires
 collect-requires c κs =
     let a = c .before .before .before .before .before .before .before .before .before .before .before .before .before .before .before .before .before .args in
-    admitted-region (a .file .now) (a .wanted .now) (a .start) (a .end) (a .kind) (c .before .before .before .before .before .admit .ensures) (c .before .before .before .a2 .given .0 .0) (c .before .before .before .a2 .given .1)
+    admitted-region (a .file .now) (a .wanted .now) (a .start) (a .end) (a .kind) (c .before .before .before .a2 .given .0 .0) (c .before .before .before .a2 .given .1) (c .before .before .before .before .before .admit .ensures)
 
 settle-requires : tie.Need-settle-requires
 settle-requires c κs = search needs
@@ -51,7 +51,7 @@ returns-2 c =
     let a = c .before .before .before .before .before .before .before .before .before .before .before .before .before .before .before .before .before .before .before .before .before .before .before .before .before .before .before .before .before .args in
     let k = c .before .before .before .before .before .before .before .before .before .before .before .before .before .before .before .a2 .given in
     gives-settled (hitsOf (a .file .now) (meant (k .0 .0)) (a .wanted .now) (a .start) (a .end))
-    (admitted-scan (a .file .now) (a .wanted .now) (a .start) (a .end) (a .kind) (c .before .before .before .before .before .before .before .before .before .before .before .before .before .before .before .before .before .admit .ensures) (k .0 .0) (k .1) (length (a .offs .now)) (length (a .marks .now)))
+    (admitted-scan (a .file .now) (a .wanted .now) (a .start) (a .end) (a .kind) (k .0 .0) (k .1) (c .before .before .before .before .before .before .before .before .before .before .before .before .before .before .before .before .before .admit .ensures) (length (a .offs .now)) (length (a .marks .now)))
     (c .before .before .before .before .before .before .before .before .before .before .before .before .before .before .before .before .before .before .before .before .before .before .clear-both .ensures) (c .before .before .before .before .before .before .before .before .before .before .before .collect .ensures) (c .before .before .before .before .settle .ensures)
 
 pub scan-spec : {M : Type 1} → statement M

@@ -4,7 +4,8 @@ use native.Mathlib.Omega.{arith}
 use Rattle.dalvik.specs.Instructions.Kind.{strings}
 use mathlib.Core.Logic.{⊎-elim}
 use Rattle.dalvik.specs.Numbers.{byte}
-use Rattle.code_item_scan.proofs.Hits.{named-other, named-short, named-wanted, named-unwanted, width-small, index-four, index-two}
+use Rattle.code_item_scan.proofs.Hits.{named-other, named-short, named-wanted, named-unwanted, index-four, index-two}
+use Rattle.index_width.proofs.Widths.{width-small}
 use borrow.Author.Needs.{needs}
 use Rattle.code_item_scan.proofs.string_hit.Statement.{statement}
 use Rattle.code_item_scan.proofs.string_hit.Tie as tie

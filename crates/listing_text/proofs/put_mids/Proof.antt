@@ -1,8 +1,10 @@
 use native.Mathlib.Omega.{arith}
 use Prim.Native.Nat.{_-_}
 use lib.ListN.{length, getD, take, drop}
-use Rattle.listing_text.specs.Text.{decimal, more}
-use Rattle.listing_text.proofs.Laws.{appends-then, mids-some, mids-none}
+use Rattle.text_out.specs.Text.{decimal}
+use Rattle.text_out.proofs.Laws.{appends-then}
+use Rattle.listing_text.specs.Text.{more}
+use Rattle.listing_text.proofs.Laws.{mids-some, mids-none}
 use borrow.Author.Needs.{needs}
 use Rattle.listing_text.proofs.put_mids.Statement.{statement}
 use Rattle.listing_text.proofs.put_mids.Tie as tie
@@ -17,15 +19,16 @@ same-length : tie.Need-same-length
 same-length c = search needs
 
 returns : tie.Need-returns
-returns c =
-    let a = c .before .before .before .before .before .before .before .before .args in
-    rw (mids-none (a .mids .now) (c .before .before .before .before .before .if1 .taken)) (c .before .before .put .ensures)
+returns c = rw (mids-none (c .before .before .before .before .before .before .before .before .args .mids .now) (c .before .before .before .before .before .if1 .taken)) (c .before .before .put .ensures)
 
-shared-slice-read-put-word : tie.Need-shared-slice-read-put-word
-shared-slice-read-put-word c = search needs
+shared-slice-read-put-number : tie.Need-shared-slice-read-put-number
+shared-slice-read-put-number c = search needs
 
-put-word-requires : tie.Need-put-word-requires
-put-word-requires c κs = search needs
+cast-put-number : tie.Need-cast-put-number
+cast-put-number c = omega (arith, c .shared-slice-known2 .given 0)
+
+put-number-requires : tie.Need-put-number-requires
+put-number-requires c κs = search needs
 
 sub-put-rest : tie.Need-sub-put-rest
 sub-put-rest c = search needs
@@ -44,23 +47,8 @@ same-length-2 c = search needs
 
 returns-2 : tie.Need-returns-2
 returns-2 c =
-    let a = c .before .before .before .before .before .before .before .before .before .before .before .before .before .args in
-    let ms = a .mids .now in
-    rw (mids-some ms (omega arith)) (appends-then _ _ (decimal (getD ms 0 0)) (c .before .before .before .before .before .before .before .put-word .last .0) _ (more (take (length ms - 1) (drop 1 ms))) _ _ (c .before .before .before .before .before .before .before .put-word .ensures) (c .before .before .put-rest .ensures))
+    let ms = c .before .before .before .before .before .before .before .before .before .before .before .before .before .args .mids .now in
+    rw (mids-some ms (omega arith)) (appends-then _ _ (decimal (getD ms 0 0)) (c .before .before .before .before .before .before .before .put-number .last .0) _ (more (take (length ms - 1) (drop 1 ms))) _ _ (c .before .before .before .before .before .before .before .put-number .ensures) (c .before .before .put-rest .ensures))
 
 pub put-mids-spec : {M : Type 1} → statement M
-put-mids-spec =
-    tie.close
-    (tie.spec
-    slice-aggregate-put
-    put-requires
-    same-length
-    returns
-    shared-slice-read-put-word
-    put-word-requires
-    sub-put-rest
-    part-put-rest-start
-    part-put-rest-end
-    put-rest-requires
-    same-length-2
-    returns-2)
+put-mids-spec = tie.close (tie.spec slice-aggregate-put put-requires same-length returns shared-slice-read-put-number cast-put-number put-number-requires sub-put-rest part-put-rest-start part-put-rest-end put-rest-requires same-length-2 returns-2)

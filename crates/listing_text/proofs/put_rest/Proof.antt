@@ -3,7 +3,7 @@ use Prim.Native.Nat.{_-_, _≤_}
 use lib.ListN.{length, take}
 use lib.Seq.{take-all}
 use Rattle.listing_text.specs.Text.{more}
-use Rattle.listing_text.specs.Cursor.{Appends}
+use Rattle.text_out.specs.Cursor.{Appends}
 use Rattle.listing_text.proofs.Laws.{rest-none, more-next}
 use borrow.Author.Needs.{needs}
 use native.Mathlib.Omega.{arith}
@@ -11,22 +11,28 @@ use Rattle.listing_text.proofs.put_rest.Statement.{statement}
 use Rattle.listing_text.proofs.put_rest.Tie as tie
 
 abbrev Inv-loop : tie.InvT-loop
-Inv-loop out₀ at methods p₀ i₀ out p i = (i ≤ length methods) × (length out ≡ length out₀) × Appends out₀ at (more (take i methods)) out p
+Inv-loop out₀ at methods p₀ i₀ t6 out p i = (i ≤ length methods) × (length out ≡ length out₀) × Appends out₀ at (more (take i methods)) out p
 
 abbrev μ-loop : tie.MeasureT-loop
-μ-loop out₀ at methods p₀ i₀ out p i = length methods - i
+μ-loop out₀ at methods p₀ i₀ t6 out p i = length methods - i
 
 loop-holds : tie.Need-loop-holds Inv-loop μ-loop
 loop-holds c = (omega arith, refl, rest-none _ _)
 
-mul-put-more : tie.Need-mul-put-more Inv-loop μ-loop
-mul-put-more c = search needs
+slice-aggregate-put-named : tie.Need-slice-aggregate-put-named Inv-loop μ-loop
+slice-aggregate-put-named c = search needs
 
-shared-slice-read-put-more : tie.Need-shared-slice-read-put-more Inv-loop μ-loop
-shared-slice-read-put-more c = search needs
+mul-put-named : tie.Need-mul-put-named Inv-loop μ-loop
+mul-put-named c = search needs
 
-put-more-requires : tie.Need-put-more-requires Inv-loop μ-loop
-put-more-requires c κs = search needs
+shared-slice-read-put-named : tie.Need-shared-slice-read-put-named Inv-loop μ-loop
+shared-slice-read-put-named c = search needs
+
+cast-put-named : tie.Need-cast-put-named Inv-loop μ-loop
+cast-put-named c = omega (arith, c .shared-slice-known2 .given (c .before .before .before .before .loop .i))
+
+put-named-requires : tie.Need-put-named-requires Inv-loop μ-loop
+put-named-requires c κs = search needs
 
 add-i : tie.Need-add-i Inv-loop μ-loop
 add-i c = search needs
@@ -36,9 +42,9 @@ loop-less c = search needs
 
 loop-again : tie.Need-loop-again Inv-loop μ-loop
 loop-again c =
-    let l = c .before .before .before .before .before .before .loop in
-    let a = c .before .before .before .before .before .before .before .before .before .args in
-    (omega arith, search needs, more-next (a .out .now) (a .at) (a .methods .now) (l .out) (l .p) (l .i) _ _ (omega arith) (l .inv .2) (c .before .before .put-more .ensures))
+    let l = c .before .before .before .before .before .before .before .loop in
+    let a = c .before .before .before .before .before .before .before .before .before .before .args in
+    (omega arith, search needs, more-next (a .out .now) (a .at) (a .methods .now) (l .out) (l .p) (l .i) _ _ (omega arith) (l .inv .2) (c .before .before .put-named .ensures))
 
 same-length : tie.Need-same-length Inv-loop μ-loop
 same-length c = search needs
@@ -56,9 +62,11 @@ put-rest-spec =
     Inv-loop
     μ-loop
     loop-holds
-    mul-put-more
-    shared-slice-read-put-more
-    put-more-requires
+    slice-aggregate-put-named
+    mul-put-named
+    shared-slice-read-put-named
+    cast-put-named
+    put-named-requires
     add-i
     loop-less
     loop-again

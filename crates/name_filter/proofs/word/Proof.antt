@@ -1,4 +1,4 @@
-use Rattle.name_filter.proofs.Names.{read-value, read-outside}
+use Rattle.name_faults.proofs.Words.{read-value, read-outside}
 use Rattle.words.proofs.Shared.{met}
 use borrow.Author.Needs.{needs}
 use Rattle.name_filter.proofs.word.Statement.{statement}

@@ -1,4 +1,5 @@
-use Rattle.request_lines.specs.Lines.{numberLine}
+use mathlib.Core.Path.{ap, _∙_}
+use Rattle.request_lines.specs.Lines.{ended, numberLine}
 use Rattle.words.proofs.Shared.{met}
 use borrow.Author.Needs.{needs}
 use Rattle.request_lines.proofs.number_line.Statement.{statement}
@@ -20,47 +21,14 @@ returns c = rw (← met (c .enum-told .given .1) (c .before .before .read-word .
 read-number-requires : tie.Need-read-number-requires
 read-number-requires c κs = search needs
 
-enum-known-v : tie.Need-enum-known-v
-enum-known-v c = search needs
-
-enum-told-2 : tie.Need-enum-told-2
-enum-told-2 c = search needs
+ended-requires : tie.Need-ended-requires
+ended-requires c κs = search needs
 
 returns-2 : tie.Need-returns-2
 unfolding numberLine
-returns-2 c = rw (← met (c .before .before .before .before .a .given .1) (c .before .before .before .before .before .before .read-word .ensures), ← met (c .enum-told2 .given .1) (c .before .before .read-number .ensures))
-
-read-line-end-requires : tie.Need-read-line-end-requires
-read-line-end-requires c κs = search needs
-
-enum-known-c : tie.Need-enum-known-c
-enum-known-c c = search needs
-
-enum-told-3 : tie.Need-enum-told-3
-enum-told-3 c = search needs
-
-returns-3 : tie.Need-returns-3
-unfolding numberLine
-returns-3 c = rw (← met (c .before .before .before .before .before .before .before .before .a .given .1) (c .before .before .before .before .before .before .before .before .before .before .read-word .ensures), ← met (c .before .before .before .before .v .given .1) (c .before .before .before .before .before .before .read-number .ensures), ← met (c .enum-told3 .given .1) (c .before .before .read-line-end .ensures))
-
-returns-4 : tie.Need-returns-4
-unfolding numberLine
-returns-4 c = rw (← met (c .before .before .before .before .before .before .before .before .before .a .given .1) (c .before .before .before .before .before .before .before .before .before .before .before .read-word .ensures), ← met (c .before .before .before .before .before .v .given .1) (c .before .before .before .before .before .before .before .read-number .ensures), ← met (c .before .c .given .1) (c .before .before .before .read-line-end .ensures))
+returns-2 c =
+    let a = c .before .before .before .before .before .before .before .before .args in
+    rw (← met (c .before .before .before .a .given .1) (c .before .before .before .before .before .read-word .ensures)) (c .ended .ensures ∙ ap (ended (a .text .now)) (c .before .read-number .ensures))
 
 pub number-line-spec : {M : Type 1} → statement M
-number-line-spec =
-    tie.close
-    (tie.spec
-    read-word-requires
-    enum-known-a
-    enum-told
-    returns
-    read-number-requires
-    enum-known-v
-    enum-told-2
-    returns-2
-    read-line-end-requires
-    enum-known-c
-    enum-told-3
-    returns-3
-    returns-4)
+number-line-spec = tie.close (tie.spec read-word-requires enum-known-a enum-told returns read-number-requires ended-requires returns-2)

@@ -30,75 +30,25 @@ returns-2 : tie.Need-returns-2
 unfolding pairLine
 returns-2 c = rw (← met (c .before .before .before .before .a .given .1) (c .before .before .before .before .before .before .read-word .ensures), ← met (c .enum-told2 .given .1) (c .before .before .read-number .ensures))
 
-slice-aggregate-read-word : tie.Need-slice-aggregate-read-word
-slice-aggregate-read-word c = search needs
+slice-aggregate-number-line : tie.Need-slice-aggregate-number-line
+slice-aggregate-number-line c = search needs
 
-read-word-requires-2 : tie.Need-read-word-requires-2
-read-word-requires-2 c κs = search needs
+number-line-requires : tie.Need-number-line-requires
+number-line-requires c κs = search needs
 
-enum-known-c : tie.Need-enum-known-c
-enum-known-c c = search needs
+enum-known-size : tie.Need-enum-known-size
+enum-known-size c = search needs
 
 enum-told-3 : tie.Need-enum-told-3
 enum-told-3 c = search needs
 
 returns-3 : tie.Need-returns-3
 unfolding pairLine
-returns-3 c = rw (← met (c .before .before .before .before .before .before .before .before .before .a .given .1) (c .before .before .before .before .before .before .before .before .before .before .before .read-word .ensures), ← met (c .before .before .before .before .before .off .given .1) (c .before .before .before .before .before .before .before .read-number .ensures), ← met (c .enum-told3 .given .1) (c .before .before .read-word2 .ensures))
-
-read-number-requires-2 : tie.Need-read-number-requires-2
-read-number-requires-2 c κs = search needs
-
-enum-known-size : tie.Need-enum-known-size
-enum-known-size c = search needs
-
-enum-told-4 : tie.Need-enum-told-4
-enum-told-4 c = search needs
+returns-3 c = rw (← met (c .before .before .before .before .before .before .before .before .before .a .given .1) (c .before .before .before .before .before .before .before .before .before .before .before .read-word .ensures), ← met (c .before .before .before .before .before .off .given .1) (c .before .before .before .before .before .before .before .read-number .ensures), ← met (c .enum-told3 .given .1) (c .before .before .number-line .ensures))
 
 returns-4 : tie.Need-returns-4
 unfolding pairLine
-returns-4 c = rw (← met (c .before .before .before .before .before .before .before .before .before .before .before .before .before .a .given .1) (c .before .before .before .before .before .before .before .before .before .before .before .before .before .before .before .read-word .ensures), ← met (c .before .before .before .before .before .before .before .before .before .off .given .1) (c .before .before .before .before .before .before .before .before .before .before .before .read-number .ensures), ← met (c .before .before .before .before .c .given .1) (c .before .before .before .before .before .before .read-word2 .ensures), ← met (c .enum-told4 .given .1) (c .before .before .read-number2 .ensures))
-
-read-line-end-requires : tie.Need-read-line-end-requires
-read-line-end-requires c κs = search needs
-
-enum-known-e : tie.Need-enum-known-e
-enum-known-e c = search needs
-
-enum-told-5 : tie.Need-enum-told-5
-enum-told-5 c = search needs
-
-returns-5 : tie.Need-returns-5
-unfolding pairLine
-returns-5 c = rw (← met (c .before .before .before .before .before .before .before .before .before .before .before .before .before .before .before .before .before .a .given .1) (c .before .before .before .before .before .before .before .before .before .before .before .before .before .before .before .before .before .before .before .read-word .ensures), ← met (c .before .before .before .before .before .before .before .before .before .before .before .before .before .off .given .1) (c .before .before .before .before .before .before .before .before .before .before .before .before .before .before .before .read-number .ensures), ← met (c .before .before .before .before .before .before .before .before .c .given .1) (c .before .before .before .before .before .before .before .before .before .before .read-word2 .ensures), ← met (c .before .before .before .before .size .given .1) (c .before .before .before .before .before .before .read-number2 .ensures), ← met (c .enum-told5 .given .1) (c .before .before .read-line-end .ensures))
-
-returns-6 : tie.Need-returns-6
-unfolding pairLine
-returns-6 c = rw (← met (c .before .before .before .before .before .before .before .before .before .before .before .before .before .before .before .before .before .before .a .given .1) (c .before .before .before .before .before .before .before .before .before .before .before .before .before .before .before .before .before .before .before .before .read-word .ensures), ← met (c .before .before .before .before .before .before .before .before .before .before .before .before .before .before .off .given .1) (c .before .before .before .before .before .before .before .before .before .before .before .before .before .before .before .before .read-number .ensures), ← met (c .before .before .before .before .before .before .before .before .before .c .given .1) (c .before .before .before .before .before .before .before .before .before .before .before .read-word2 .ensures), ← met (c .before .before .before .before .before .size .given .1) (c .before .before .before .before .before .before .before .read-number2 .ensures), ← met (c .before .e .given .1) (c .before .before .before .read-line-end .ensures))
+returns-4 c = rw (← met (c .before .before .before .before .before .before .before .before .before .before .a .given .1) (c .before .before .before .before .before .before .before .before .before .before .before .before .read-word .ensures), ← met (c .before .before .before .before .before .before .off .given .1) (c .before .before .before .before .before .before .before .before .read-number .ensures), ← met (c .before .size .given .1) (c .before .before .before .number-line .ensures))
 
 pub pair-line-spec : {M : Type 1} → statement M
-pair-line-spec =
-    tie.close
-    (tie.spec
-    read-word-requires
-    enum-known-a
-    enum-told
-    returns
-    read-number-requires
-    enum-known-off
-    enum-told-2
-    returns-2
-    slice-aggregate-read-word
-    read-word-requires-2
-    enum-known-c
-    enum-told-3
-    returns-3
-    read-number-requires-2
-    enum-known-size
-    enum-told-4
-    returns-4
-    read-line-end-requires
-    enum-known-e
-    enum-told-5
-    returns-5
-    returns-6)
+pair-line-spec = tie.close (tie.spec read-word-requires enum-known-a enum-told returns read-number-requires enum-known-off enum-told-2 returns-2 slice-aggregate-number-line number-line-requires enum-known-size enum-told-3 returns-3 returns-4)

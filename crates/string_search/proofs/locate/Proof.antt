@@ -1,7 +1,7 @@
 use lib.ListN.{length}
 use Rattle.string_search.proofs.Listing.{owners-listed, in-area, backward, past-end}
 use Rattle.string_search.proofs.Faults.{no-fault}
-use Rattle.string_search.proofs.Keys.{good-rising}
+use Rattle.string_keys.proofs.Keys.{good-rising}
 use Rattle.string_search.specs.Search.{faultNumber}
 use Rattle.rising.proofs.Found.{found-refused, found-none, exit-short, exit-all, zeros-again, zeros-length}
 use mathlib.Core.Path.{ap, sym, _∙_}

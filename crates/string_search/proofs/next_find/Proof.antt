@@ -1,12 +1,10 @@
 -- `string_search::next_find` meets its contract: between two places of the query's first and last byte no occurrence stands.
 -- Assumes nothing.
-use Rattle.string_search.proofs.Finds.{Ahead, ahead-start, ahead-next, ahead-found, ahead-none}
+use Rattle.string_search.proofs.Finds.{Ahead, nearer, ahead-start, ahead-next, ahead-found, ahead-none}
 use Rattle.string_search.specs.Finds.{at-place, no-more}
-use Rattle.memchr.proofs.Firsts.{onward}
 use mathlib.Core.Path.{refl}
 use Prim.Native.Nat.{_-_}
 use borrow.Author.Needs.{needs}
-use native.Mathlib.Omega.{arith}
 use Rattle.string_search.proofs.next_find.Statement.{statement}
 use Rattle.string_search.proofs.next_find.Tie as tie
 
@@ -52,7 +50,9 @@ pair-requires-2 : tie.Need-pair-requires-2 Inv-loop μ-loop
 pair-requires-2 c κs = search needs
 
 loop-less : tie.Need-loop-less Inv-loop μ-loop
-loop-less c = omega (arith, onward (omega arith) (c .pair2 .ensures))
+loop-less c =
+    let p = c .before .before .before .before .before .before .before .before .before .before .pre in
+    nearer (c .before .before .before .before .loop .at) _ (p .0 .inside) (c .before .before .before .loop-test .taken) (c .pair2 .ensures)
 
 loop-again : tie.Need-loop-again Inv-loop μ-loop
 loop-again c =

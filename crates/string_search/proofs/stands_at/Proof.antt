@@ -1,4 +1,4 @@
-use Rattle.string_search.proofs.Finds.{stands-bytes, byte-stands}
+use Rattle.string_search.proofs.Finds.{decided-yes, decided-no, stands-bytes, byte-stands}
 use lib.ListN.{length, getD}
 use borrow.Author.Count.{below-more}
 use mathlib.Core.Path.{_≡_}
@@ -30,10 +30,7 @@ returns : tie.Need-returns Inv-loop μ-loop
 returns c =
     let a = c .before .before .before .before .before .args in
     let k = c .before .before .before .before .loop .k in
-    record {
-      yes = λ e. absurd (let z : _≡_ {A = ℕ} 0 1 = cc in omega arith);
-      no = λ e st. c .if1 .taken (byte-stands (a .file .now) (a .query .now) (a .at) k (c .before .before .before .loop-test .taken) st);
-    }
+    decided-no (λ st. c .if1 .taken (byte-stands (a .file .now) (a .query .now) (a .at) k (c .before .before .before .loop-test .taken) st))
 
 add-k : tie.Need-add-k Inv-loop μ-loop
 add-k c = search needs
@@ -48,10 +45,7 @@ returns-2 : tie.Need-returns-2 Inv-loop μ-loop
 returns-2 c =
     let a = c .before .before .args in
     let k = c .before .loop in
-    record {
-      yes = λ e. stands-bytes (a .file .now) (a .query .now) (a .at) (c .before .before .pre) (λ i h. k .inv .1 i (omega arith));
-      no = λ e. absurd (let z : _≡_ {A = ℕ} 0 1 = cc in omega arith);
-    }
+    decided-yes (stands-bytes (a .file .now) (a .query .now) (a .at) (c .before .before .pre) (λ i h. k .inv .1 i (omega arith)))
 
 pub stands-at-spec : {M : Type 1} → statement M
 stands-at-spec =

@@ -1,0 +1,48 @@
+-- `class_methods` meets its contract: the sizes say how many numbers to skip, and what is behind them is the walk's rest.
+-- Assumes nothing.
+use borrow.Author.Needs.{needs}
+use Rattle.class_data_item.proofs.class_methods.Statement.{statement}
+use Rattle.class_data_item.proofs.class_methods.Tie as tie
+use Rattle.class_data_item.proofs.Laws.{place-some, place-none, sizes-told, sizes-off}
+use Rattle.class_data_item.proofs.Parts.{methods-off, methods-none, methods-at}
+
+class-sizes-requires : tie.Need-class-sizes-requires
+class-sizes-requires c κs = search needs
+
+enum-known-fields : tie.Need-enum-known-fields
+enum-known-fields c = search needs
+
+enum-told : tie.Need-enum-told
+enum-told c = search needs
+
+returns : tie.Need-returns
+returns c = methods-off _ _ (sizes-off _ _ _ (c .before .before .class-sizes .ensures) (c .enum-told .given .1))
+
+skip-numbers-requires : tie.Need-skip-numbers-requires
+skip-numbers-requires c κs = search needs
+
+enum-known-q : tie.Need-enum-known-q
+enum-known-q c = search needs
+
+enum-told-2 : tie.Need-enum-told-2
+enum-told-2 c = search needs
+
+returns-2 : tie.Need-returns-2
+returns-2 c = methods-none _ _ _ _ _ _ (sizes-told _ _ _ (c .before .before .before .before .before .before .class-sizes .ensures) _ _ _ _ (c .before .before .before .before .fields .given .1)) (place-none _ _ (c .before .before .skip-numbers .ensures) (c .enum-told2 .given .1))
+
+returns-3 : tie.Need-returns-3
+returns-3 c = methods-at _ _ _ _ _ _ (sizes-told _ _ _ (c .before .before .before .before .before .before .before .class-sizes .ensures) _ _ _ _ (c .before .before .before .before .before .fields .given .1)) _ (place-some _ _ (c .before .before .before .skip-numbers .ensures) _ (c .before .q .given .1))
+
+pub class-methods-spec : {M : Type 1} → statement M
+class-methods-spec =
+    tie.close
+    (tie.spec
+    class-sizes-requires
+    enum-known-fields
+    enum-told
+    returns
+    skip-numbers-requires
+    enum-known-q
+    enum-told-2
+    returns-2
+    returns-3)

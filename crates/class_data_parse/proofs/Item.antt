@@ -1,0 +1,73 @@
+-- A class data item by its methods: the virtual methods go on from what the direct methods left, and no more codes are found than the file
+-- has bytes.
+-- Assumes nothing.
+use Prim.Native.Nat.{ℕ, _+_, _≤_}
+use native.Mathlib.Omega.{arith}
+use mathlib.Core.Path.{_≡_, ap, _∙_}
+use mathlib.Core.Bool.{true, false}
+use mathlib.Core.List.{List}
+use lib.ListN.{length}
+use borrow.Author.Tests.{le-ltb, le-leb, lt-leb}
+use Rattle.refusal.specs.Refusals.{largestFile, tooLarge}
+use Rattle.refusal.specs.declared.Refusal.{Refusal}
+use Rattle.refusal.specs.declared.Refusal.the-variants.{FileTooLarge, LentTooShort}
+use Rattle.class_data_item.specs.Walk.{Walk, andOn, methodsFrom, classDataAt}
+use Rattle.class_data_item.specs.Reads.{MethodsAt}
+use Rattle.class_data_item.proofs.Within.{methods-in, class-in}
+use Rattle.class_data_parse.specs.Steps.{MethodsPre, countsBelow, ItemPre, Left, stored, itemLeft}
+use Rattle.class_data_parse.specs.Steps.Left.{refusal, left}
+use Rattle.class_data_parse.proofs.Kept.{stored-on, stored-refused, refused-stored, left-by}
+
+-- where a walk over methods ends, and how many codes it may have found
+record Onto (s : List ℕ) (i k e k′ : ℕ) : Type 0 where
+  inside : e ≤ length s
+  few : k′ + i ≤ k + e
+
+methods-onto : (s : List ℕ) (m n i j k : ℕ) (ts zs : List ℕ) (e k′ : ℕ) (ts′ zs′ : List ℕ) → i ≤ length s
+    → left e k′ ts′ zs′ ≡ stored k ts zs (methodsFrom n s m i j) → Onto s i k e k′
+methods-onto s m n i j k ts zs e k′ ts′ zs′ q h =
+    let b = left-by k ts zs (methodsFrom n s m i j) e k′ ts′ zs′ h in
+    let x = methods-in s m n i j (b .codes) e q (b .walk) in
+    record { inside = x .inside; few = omega arith }
+
+pub methods-first : (s : List ℕ) (i k : ℕ) → ItemPre s k → i ≤ length s → MethodsPre s i k
+methods-first s i k d q = record { small = d .small; place = omega arith; few = omega arith }
+
+pub methods-second : (s : List ℕ) (m n i j k : ℕ) (ts zs : List ℕ) (e k′ : ℕ) (ts′ zs′ : List ℕ) → ItemPre s k → i ≤ length s
+    → left e k′ ts′ zs′ ≡ stored k ts zs (methodsFrom n s m i j) → MethodsPre s e k′
+methods-second s m n i j k ts zs e k′ ts′ zs′ d q h =
+    let x = methods-onto s m n i j k ts zs e k′ ts′ zs′ q h in
+    record { small = d .small; place = omega arith; few = omega arith }
+
+module _ (s : List ℕ) (m i d v p : ℕ) (z : MethodsAt s i d v p) (k : ℕ) (ts zs : List ℕ) where
+  pub class-no : (r : Refusal) → refusal r ≡ stored k ts zs (methodsFrom d s m p 0) → refusal r ≡ stored k ts zs (classDataAt s m i)
+  class-no r h =
+      refused-stored k ts zs (classDataAt s m i) r
+      (ap (λ (x : Walk). andOn x (λ f. methodsFrom v s m f 0)) (stored-refused k ts zs (methodsFrom d s m p 0) r h) ∙ z .rest m)
+
+  pub class-at : (a k′ : ℕ) (ts′ zs′ : List ℕ) (x : Left) → left a k′ ts′ zs′ ≡ stored k ts zs (methodsFrom d s m p 0)
+      → x ≡ stored k′ ts′ zs′ (methodsFrom v s m a 0) → x ≡ stored k ts zs (classDataAt s m i)
+  class-at a k′ ts′ zs′ x h g =
+      g ∙ stored-on k ts zs (methodsFrom d s m p 0) (λ f. methodsFrom v s m f 0) a k′ ts′ zs′ h ∙ ap (stored k ts zs) (z .rest m)
+
+-- the codes of an item are fewer than the file has bytes
+pub class-few : (s : List ℕ) (m i k : ℕ) (ts zs : List ℕ) (e k′ : ℕ) (ts′ zs′ : List ℕ)
+    → left e k′ ts′ zs′ ≡ stored k ts zs (classDataAt s m i) → k′ ≤ k + length s
+class-few s m i k ts zs e k′ ts′ zs′ h =
+    let b = left-by k ts zs (classDataAt s m i) e k′ ts′ zs′ h in
+    let x = class-in s m i (b .codes) e (b .walk) in
+    omega arith
+
+-- ---- what is refused before the walk
+module _ (s : List ℕ) (m i k : ℕ) (ts zs : List ℕ) where
+  pub item-large : tooLarge (length s) ≡ true → refusal FileTooLarge ≡ itemLeft s m i k ts zs
+  unfolding itemLeft
+  item-large a = rw a
+
+  pub item-many : tooLarge (length s) ≡ false → countsBelow ≤ k → refusal LentTooShort ≡ itemLeft s m i k ts zs
+  unfolding itemLeft
+  item-many a h = rw (a, le-leb countsBelow k h)
+
+  pub item-left : ItemPre s k → itemLeft s m i k ts zs ≡ stored k ts zs (classDataAt s m i)
+  unfolding itemLeft
+  item-left p = rw (le-ltb largestFile (length s) (p .small), lt-leb countsBelow k (p .few))

@@ -1,0 +1,70 @@
+use mathlib.Core.Path.{sym}
+use lib.Seq.{length-take-le}
+use Rattle.entry_lines.specs.Line.{lineOut}
+use Rattle.entry_lines.proofs.Laws.{gives-as, done-fits, line-done, line-refused}
+use borrow.Author.Needs.{needs}
+use Rattle.entry_lines.proofs.line.Statement.{statement}
+use Rattle.entry_lines.proofs.line.Tie as tie
+
+list-slot-requires : tie.Need-list-slot-requires
+list-slot-requires c κs = search needs
+
+enum-known-why : tie.Need-enum-known-why
+enum-known-why c = search needs
+
+clear-requires : tie.Need-clear-requires
+clear-requires c κs = search needs
+
+enum-known-n : tie.Need-enum-known-n
+enum-known-n c = search needs
+
+slice-reshare-prefix-entry : tie.Need-slice-reshare-prefix-entry
+slice-reshare-prefix-entry c = done-fits _ _ (c .before .before .before .before .before .list-slot .last .1 .1 .0) _ (gives-as (c .before .n .given .1) (c .before .before .before .before .before .list-slot .ensures))
+
+slice-aggregate-entry : tie.Need-slice-aggregate-entry
+slice-aggregate-entry c = sym (length-take-le _ _ (done-fits _ _ (c .before .before .before .before .before .before .list-slot .last .1 .1 .0) _ (gives-as (c .before .before .n .given .1) (c .before .before .before .before .before .before .list-slot .ensures))))
+
+entry-requires : tie.Need-entry-requires
+entry-requires c κs = search needs
+
+same-length : tie.Need-same-length
+same-length c = search needs
+
+same-length-2 : tie.Need-same-length-2
+same-length-2 c = search needs
+
+returns : tie.Need-returns
+unfolding lineOut
+returns c =
+    let a = c .before .before .before .before .before .before .before .before .before .before .before .before .before .before .args in
+    line-refused _ _ (c .before .before .before .before .before .before .before .before .before .list-slot .last .1 .1 .0) (a .off) (a .idx) _ _ (a .text .now) _ (gives-as (c .before .before .before .before .before .why .given .1) (c .before .before .before .before .before .before .before .before .before .list-slot .ensures)) (c .before .before .clear .ensures)
+
+same-length-3 : tie.Need-same-length-3
+same-length-3 c = search needs
+
+same-length-4 : tie.Need-same-length-4
+same-length-4 c = search needs
+
+returns-2 : tie.Need-returns-2
+unfolding lineOut
+returns-2 c =
+    let a = c .before .before .before .before .before .before .before .before .before .before .before .before .before .before .before .args in
+    line-done _ _ (c .before .before .before .before .before .before .before .before .before .before .list-slot .last .1 .1 .0) (a .off) (a .idx) _ _ _ (a .text .now) _ (gives-as (c .before .before .before .before .before .before .n .given .1) (c .before .before .before .before .before .before .before .before .before .before .list-slot .ensures)) (c .before .before .entry .ensures)
+
+pub line-spec : {M : Type 1} → statement M
+line-spec =
+    tie.close
+    (tie.spec
+    list-slot-requires
+    enum-known-why
+    clear-requires
+    enum-known-n
+    slice-reshare-prefix-entry
+    slice-aggregate-entry
+    entry-requires
+    same-length
+    same-length-2
+    returns
+    same-length-3
+    same-length-4
+    returns-2)

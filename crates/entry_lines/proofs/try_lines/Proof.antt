@@ -1,0 +1,91 @@
+use Rattle.entry_lines.specs.Line.{lineAt, firstRefused}
+use Rattle.entry_lines.proofs.Laws.{gives-as, gives-room, try-start, try-on, try-refused, try-done}
+use mathlib.Core.Path.{_≡_, refl}
+use Prim.Native.Nat.{_≤_, _-_}
+use lib.ListN.{length}
+use borrow.Author.Needs.{needs}
+use native.Mathlib.Omega.{arith}
+use Rattle.entry_lines.proofs.try_lines.Statement.{statement}
+use Rattle.entry_lines.proofs.try_lines.Tie as tie
+
+abbrev Inv-loop : tie.InvT-loop
+Inv-loop offs marks answers shares mids₀ text₀ i₀ mids text i = (i ≤ length offs) × (length mids ≡ length mids₀) × (length text ≡ length text₀) × (firstRefused (lineAt offs marks answers shares (length mids₀) (length text₀)) (length offs - i) i ≡ firstRefused (lineAt offs marks answers shares (length mids₀) (length text₀)) (length offs) 0)
+
+abbrev μ-loop : tie.MeasureT-loop
+μ-loop offs marks answers shares mids₀ text₀ i₀ mids text i = length offs - i
+
+loop-holds : tie.Need-loop-holds Inv-loop μ-loop
+loop-holds c = (omega arith, refl, refl, try-start _ _)
+
+line-at-requires : tie.Need-line-at-requires Inv-loop μ-loop
+line-at-requires c κs = search needs
+
+enum-known-why : tie.Need-enum-known-why Inv-loop μ-loop
+enum-known-why c = search needs
+
+same-length : tie.Need-same-length Inv-loop μ-loop
+same-length c = search needs
+
+same-length-2 : tie.Need-same-length-2 Inv-loop μ-loop
+same-length-2 c = search needs
+
+returns : tie.Need-returns Inv-loop μ-loop
+returns c =
+    let l = c .before .before .before .before .before .before .before .before .before .before .before .loop in
+    let a = c .before .before .before .before .before .before .before .before .before .before .before .before .before .before .before .before .before .before .args in
+    let n = length (a .offs .now) in
+    let f = lineAt (a .offs .now) (a .marks .now) (a .answers .now) (a .shares .now) (length (a .mids .now)) (length (a .text .now)) in
+    let g = gives-as {o = lineAt (a .offs .now) (a .marks .now) (a .answers .now) (a .shares .now) (length (l .mids)) (length (l .text)) (l .i)} (c .before .why .given .1) (c .before .before .before .before .before .before .before .line-at .ensures) in
+    try-refused f n (l .i) _ (l .text) _ (omega arith) (gives-room (a .offs .now) (a .marks .now) (a .answers .now) (a .shares .now) (l .i) (l .inv .1) (l .inv .2) g) (l .inv .3)
+
+enum-told : tie.Need-enum-told Inv-loop μ-loop
+enum-told c = search needs
+
+add-i : tie.Need-add-i Inv-loop μ-loop
+add-i c = search needs
+
+loop-less : tie.Need-loop-less Inv-loop μ-loop
+loop-less c = search needs
+
+loop-again : tie.Need-loop-again Inv-loop μ-loop
+loop-again c =
+    let l = c .before .before .before .before .before .before .before .before .before .before .loop in
+    let a = c .before .before .before .before .before .before .before .before .before .before .before .before .before .before .before .before .before .args in
+    let n = length (a .offs .now) in
+    let f = lineAt (a .offs .now) (a .marks .now) (a .answers .now) (a .shares .now) (length (a .mids .now)) (length (a .text .now)) in
+    let g = gives-as {o = lineAt (a .offs .now) (a .marks .now) (a .answers .now) (a .shares .now) (length (l .mids)) (length (l .text)) (l .i)} (c .enum-told .given .1) (c .before .before .before .before .before .before .line-at .ensures) in
+    (omega arith, search needs, search needs, try-on f n (l .i) _ (l .text) _ (omega arith) (gives-room (a .offs .now) (a .marks .now) (a .answers .now) (a .shares .now) (l .i) (l .inv .1) (l .inv .2) g) (l .inv .3))
+
+same-length-3 : tie.Need-same-length-3 Inv-loop μ-loop
+same-length-3 c = search needs
+
+same-length-4 : tie.Need-same-length-4 Inv-loop μ-loop
+same-length-4 c = search needs
+
+returns-2 : tie.Need-returns-2 Inv-loop μ-loop
+returns-2 c =
+    let l = c .before .loop in
+    let a = c .before .before .before .before .before .before .before .before .args in
+    let n = length (a .offs .now) in
+    let f = lineAt (a .offs .now) (a .marks .now) (a .answers .now) (a .shares .now) (length (a .mids .now)) (length (a .text .now)) in
+    try-done f n (l .i) (omega arith) (omega arith) (l .inv .3)
+
+pub try-lines-spec : {M : Type 1} → statement M
+try-lines-spec =
+    tie.close
+    (tie.spec
+    Inv-loop
+    μ-loop
+    loop-holds
+    line-at-requires
+    enum-known-why
+    same-length
+    same-length-2
+    returns
+    enum-told
+    add-i
+    loop-less
+    loop-again
+    same-length-3
+    same-length-4
+    returns-2)

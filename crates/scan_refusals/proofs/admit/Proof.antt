@@ -1,0 +1,49 @@
+use native.Mathlib.Omega.{arith}
+use mathlib.Core.Path.{refl, ap, sym, _∙_}
+use Prim.Native.Nat.{_-_}
+use Rattle.scan_refusals.specs.Refused.{large, unknown, backward, past-end, scan}
+use Rattle.index_width.specs.Kinds.{kindRead}
+use borrow.Author.Needs.{needs}
+use Rattle.scan_refusals.proofs.admit.Statement.{statement}
+use Rattle.scan_refusals.proofs.admit.Tie as tie
+
+too-large-requires : tie.Need-too-large-requires
+too-large-requires c κs = search needs
+
+returns : tie.Need-returns
+returns c = large (sym (c .before .too-large .ensures) ∙ c .if1 .taken) refl
+
+kind-of-requires : tie.Need-kind-of-requires
+kind-of-requires c κs = search needs
+
+enum-known-k : tie.Need-enum-known-k
+enum-known-k c = search needs
+
+enum-told : tie.Need-enum-told
+enum-told c = search needs
+
+returns-2 : tie.Need-returns-2
+returns-2 c = unknown (sym (c .before .before .before .before .too-large .ensures) ∙ c .before .before .before .if1 .left) (sym (c .before .before .kind-of .ensures) ∙ ap kindRead (c .enum-told .given .1)) refl
+
+returns-3 : tie.Need-returns-3
+returns-3 c = backward (sym (c .before .before .before .before .before .before .too-large .ensures) ∙ c .before .before .before .before .before .if1 .left) (c .before .before .k .given .0 .0) (sym (c .before .before .before .before .kind-of .ensures) ∙ ap kindRead (c .before .before .k .given .1)) (c .if2 .taken) refl
+
+returns-4 : tie.Need-returns-4
+returns-4 c = past-end (sym (c .before .before .before .before .before .before .before .too-large .ensures) ∙ c .before .before .before .before .before .before .if1 .left) (c .before .before .before .k .given .0 .0) (sym (c .before .before .before .before .before .kind-of .ensures) ∙ ap kindRead (c .before .before .before .k .given .1)) (omega arith) (c .if3 .taken) refl
+
+returns-5 : tie.Need-returns-5
+returns-5 c = scan (sym (c .before .before .before .before .before .before .before .too-large .ensures) ∙ c .before .before .before .before .before .before .if1 .left) (c .before .before .before .k .given .0 .0) (sym (c .before .before .before .before .before .kind-of .ensures) ∙ ap kindRead (c .before .before .before .k .given .1)) (omega arith) (omega arith) refl
+
+pub admit-spec : {M : Type 1} → statement M
+admit-spec =
+    tie.close
+    (tie.spec
+    too-large-requires
+    returns
+    kind-of-requires
+    enum-known-k
+    enum-told
+    returns-2
+    returns-3
+    returns-4
+    returns-5)

@@ -1,0 +1,23 @@
+use mathlib.Core.Logic.{⊎-elim, inl, inr}
+use Rattle.scan_refusals.proofs.Settling.{settle-kept, settle-cleared}
+use borrow.Author.Needs.{needs}
+use Rattle.scan_refusals.proofs.settle.Statement.{statement}
+use Rattle.scan_refusals.proofs.settle.Tie as tie
+
+returns : tie.Need-returns
+returns c = settle-kept _ _ _ (c .before .if1 .taken) (c .if2 .taken)
+
+clear-both-requires : tie.Need-clear-both-requires
+clear-both-requires c κs = search needs
+
+same-length : tie.Need-same-length
+same-length c = search needs
+
+same-length-2 : tie.Need-same-length-2
+same-length-2 c = search needs
+
+returns-2 : tie.Need-returns-2
+returns-2 c = settle-cleared _ _ _ (⊎-elim (λ w. inr (w .1 .left)) (λ w. inl (w .left)) (c .before .before .before .before .before .before .before .if1 .came)) (c .before .before .before .before .clear-both .ensures)
+
+pub settle-spec : {M : Type 1} → statement M
+settle-spec = tie.close (tie.spec returns clear-both-requires same-length same-length-2 returns-2)

@@ -1,0 +1,75 @@
+// Text written into a lent slice of bytes, piece by piece: bytes and decimal numbers, each at a place, and at last a line feed. Text that
+// doesn't fit is refused with 4, and then every lent byte is zero.
+ghost use mathlib.Core.Path.{_≡_};
+ghost use mathlib.Core.List.{_++_};
+ghost use lib.ListN.{length, replicate, set};
+ghost use Prim.Native.Nat.{_+_, min};
+ghost use Rattle.text_out.specs.Text.{decimal};
+ghost use Rattle.text_out.specs.Cursor.{Appends, Ends};
+use refusal::Answer;
+use refusal::Refusal;
+
+// Every byte becomes 0.
+pub fn clear(out: &mut [u8])
+    ensures { λ _. ⌜ now (out .exit) ≡ replicate (length (now (out .entry))) 0 ⌝ }
+{
+    let mut i = 0;
+    while i < out.len() {
+        out[i] = 0;
+        i += 1;
+    }
+}
+
+// A byte at a place, and the place behind it. Past the end nothing is written, and the place stays one behind the end.
+fn put_byte(out: &mut [u8], at: usize, b: u8) -> usize
+    ensures { λ r. ⌜ now (out .exit) ≡ set (now (out .entry)) at b ⌝ }
+    ensures { λ r. ⌜ r ≡ min (at + 1) (length (now (out .entry)) + 1) ⌝ }
+{
+    if at < out.len() {
+        out[at] = b;
+        return at + 1;
+    }
+    out.len() + 1
+}
+
+// Bytes at a place, and the place behind them.
+pub fn put(out: &mut [u8], at: usize, bytes: &[u8]) -> usize
+    ensures { λ r. ⌜ Appends (now (out .entry)) at (now (bytes .entry)) (now (out .exit)) r ⌝ }
+{
+    let mut p = at;
+    let mut i = 0;
+    while i < bytes.len() {
+        p = put_byte(out, p, bytes[i]);
+        i += 1;
+    }
+    p
+}
+
+// A number's digits, without leading zeros.
+pub fn put_number(out: &mut [u8], at: usize, n: u64) -> usize
+    ensures { λ r. ⌜ Appends (now (out .entry)) at (decimal n) (now (out .exit)) r ⌝ }
+{
+    let mut text = [0u8; 20];
+    let k = io::decimal(n, &mut text);
+    put(out, at, &text[..k])
+}
+
+// A name, and a number behind it.
+pub fn put_named(out: &mut [u8], at: usize, name: &[u8], n: u64) -> usize
+    ensures { λ r. ⌜ Appends (now (out .entry)) at (now (name .entry) ++ decimal n) (now (out .exit)) r ⌝ }
+{
+    let a = put(out, at, name);
+    put_number(out, a, n)
+}
+
+// A line feed at the text's end, and the answer: refused where that lies behind the lent bytes.
+pub fn end_line(out: &mut [u8], at: usize) -> Answer
+    ensures { λ r. ⌜ Ends (now (out .entry)) at r (now (out .exit)) ⌝ }
+{
+    let end = put(out, at, b"\n");
+    if out.len() < end {
+        clear(out);
+        return Answer::Refused(Refusal::LentTooShort);
+    }
+    Answer::Done(end)
+}
