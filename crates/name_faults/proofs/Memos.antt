@@ -1,19 +1,18 @@
 -- What a table remembers: nothing at first, and one number more with each store.
 -- Assumes nothing.
-use Prim.Native.Nat.{ℕ, zero, suc, _+_, _-_, _≤_, _<_}
+use Prim.Native.Nat.{ℕ, _+_, _-_, _≤_, _<_}
 use native.Mathlib.Omega.{arith}
-use mathlib.Core.Path.{_≡_, refl, sym, subst}
+use mathlib.Core.Path.{_≡_, sym, ap, subst, _∙_}
 use mathlib.Core.Logic.{⊎-elim}
-use mathlib.Core.List.{List}
+use mathlib.Core.List.{List, []}
 use lib.ListN.{length, getD, set, replicate, length-replicate, length-set}
 use lib.Seq.{getD-set-same, getD-set-other}
+use Rattle.words.proofs.Padded.{padded-none, padded-at}
 use Rattle.rising.proofs.Sets.{below-or-not}
 use Rattle.name_faults.specs.Faults.{Memo}
 
 zeros-at : (n i : ℕ) → _≡_ {A = ℕ} (getD (replicate n 0) i 0) 0
-zeros-at zero i = refl
-zeros-at (suc n) zero = refl
-zeros-at (suc n) (suc i) = zeros-at n i
+zeros-at n i = ap (λ (l : List ℕ). getD l i 0) (sym (padded-none n)) ∙ padded-at n [] i
 
 module _ (P : ℕ → Type 0) where
   pub memo-none : Memo P (replicate 4096 0)
