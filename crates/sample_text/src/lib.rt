@@ -5,6 +5,9 @@ use refusal::Refusal;
 use structs::Read32;
 use tinydex::DexHeader;
 use tinydex::Table;
+ghost use mathlib.Core.Path.{_≡_};
+ghost use lib.ListN.{set};
+ghost use Rattle.sample_text.specs.CountUp.{countedUp};
 
 // ---- writing
 
@@ -89,12 +92,16 @@ pub fn first_keys(keys: &[u64], n: usize) -> &[u64] {
     &keys[..n]
 }
 
-fn put_itself(list: &mut [u32], k: u32) {
+fn put_itself(list: &mut [u32], k: u32)
+    ensures { λ _. ⌜ now (list .exit) ≡ set (now (list .entry)) k k ⌝ }
+{
     words::put(list, k as usize, k);
 }
 
-// The words 0, 1, .. up to n - 1.
-pub fn count_up(list: &mut [u32], n: u32) {
+// The words 0, 1, .. up to n - 1, as far as there is room.
+pub fn count_up(list: &mut [u32], n: u32)
+    ensures { λ _. ⌜ now (list .exit) ≡ countedUp (now (list .entry)) n ⌝ }
+{
     let mut k = 0;
     while k < n {
         put_itself(list, k);
