@@ -25,7 +25,7 @@ use Rattle.rising.specs.declared.Insertion.the-variants.{Held, Full}
 use Rattle.rising.specs.Found.{Found, fitted, Whole, Matched, all, over}
 use Rattle.rising.proofs.Sets.{Listed, set-empty, set-same, set-unique}
 
-no-words : (xs : List ℕ) → length xs ≡ 0 → xs ≡ []
+pub no-words : (xs : List ℕ) → length xs ≡ 0 → xs ≡ []
 no-words [] e = refl
 no-words (x ∷ xs) e = absurd (omega arith)
 

@@ -4,3 +4,5 @@ pub mod Exits
 pub mod Sets
 pub mod Collected
 pub mod Found
+pub mod Few
+pub mod Joins

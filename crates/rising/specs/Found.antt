@@ -4,13 +4,15 @@
 use Prim.Native.Nat.{ℕ, _≤_, _<_}
 use mathlib.Core.Path.{_≡_}
 use mathlib.Core.Bool.{cond}
+use mathlib.Core.Logic.{_⊎_}
 use mathlib.Core.List.{List}
-use lib.ListN.{length}
+use lib.ListN.{length, take}
 use lib.Dec.{eqb, ltb}
 use Rattle.words.specs.Padded.{padded}
+use Rattle.words.specs.Rising.{Rising}
 use Rattle.refusal.specs.declared.Answer.{Answer}
 use Rattle.refusal.specs.Outcomes.{Outcome, refused, success, Gives}
-use Rattle.rising.specs.Rising.{SetOf}
+use Rattle.rising.specs.Rising.{In, SetOf}
 use Rattle.rising.specs.declared.Insertion.{Insertion}
 use Rattle.rising.specs.declared.Insertion.the-variants.{Held, Full}
 
@@ -34,3 +36,13 @@ pub record Whole (P : ℕ → Type 0) (n : ℕ) (before after : List ℕ) : Type
 pub data Matched (P : ℕ → Type 0) (before after : List ℕ) (r : Insertion) : Type 0 where
   all : (n : ℕ) → r ≡ Held n → Whole P n before after → Matched P before after r
   over : r ≡ Full → ((l : List ℕ) → SetOf P l → length before < length l) → Matched P before after r
+
+-- w holds a rising list of n words, with zeros behind it
+pub record Holding (n : ℕ) (w : List ℕ) : Type 0 where
+  pub inside : n ≤ length w
+  pub rising : Rising (take n w)
+  pub words : w ≡ padded (length w) (take n w)
+
+-- x is one of the n words held, or of the set
+abbrev pub HeldOr : ℕ → List ℕ → (ℕ → Type 0) → ℕ → Type 0
+HeldOr n w P x = In x (take n w) ⊎ P x

@@ -1,5 +1,5 @@
--- The matcher's loop: what is held are owners of finds before `from`, and the owners still to come are those of the finds from there
--- on. A find takes its owner from these.
+-- The matcher's loop: what is marked or held are owners of finds before `from`, and the owners still to come are those of the finds
+-- from there on. A find takes its owner from these.
 -- Assumes nothing.
 use Prim.Native.Nat.{ℕ, _+_, _≤_, _<_}
 use mathlib.Core.Path.{_≡_, subst}
@@ -10,7 +10,7 @@ use native.Mathlib.Omega.{arith}
 use Rattle.rising.specs.Rising.{SetOf}
 use Rattle.rising.specs.declared.Insertion.{Insertion}
 use Rattle.rising.specs.declared.Insertion.the-variants.{Held, Full}
-use Rattle.rising.proofs.Collected.{Collected, collect-pass, collect-insert, collect-full}
+use Rattle.marked_set.proofs.Marking.{Marking, mark-pass, mark-add, mark-full}
 use Rattle.string_search.specs.declared.Next.{Next}
 use Rattle.string_search.specs.declared.Next.the-variants.{At, Nothing}
 use Rattle.string_search.specs.declared.Owner.the-variants.{Entry, Absent}
@@ -28,16 +28,16 @@ module _ {s q : List ℕ} {e from : ℕ} {r : Next} where
   found-none h (at-place p g f) = absurd (let z : _≡_ {A = ℕ} 0 1 = cc in omega arith)
   found-none h (no-more g n) = n
 
-module _ {s ks q : List ℕ} {e start from room n : ℕ} {out : List ℕ} (c : Collected (OwnsFrom s ks q e start) (OwnsFrom s ks q e from) room n out) where
-  pub turn : {p m : ℕ} {after : List ℕ} {r : Insertion} → First s q e from p → Stepped (owner ks p) n out after r → r ≡ Held m
-      → Collected (OwnsFrom s ks q e start) (OwnsFrom s ks q e (p + length q)) room m after
-  turn {p} {m} {after} {r} f (joined i o ins) h =
-      collect-insert c (later-owned f) i (first-owned f i o) after r ins m
-      (λ y d. ⊎-elim (λ (g : owner ks p ≡ Entry y). inl (let k : y ≡ i = cc in k)) (λ (g : OwnsFrom s ks q e (p + length q) y). inr g) (owned-first f y d)) h
-  turn {p} {m} {after} {r} f (passed o w a) h =
-      collect-pass c (later-owned f) (λ y d. ⊎-elim (λ (g : owner ks p ≡ Entry y). absurd (let z : _≡_ {A = ℕ} 0 1 = cc in omega arith)) (λ (g : OwnsFrom s ks q e (p + length q) y). g) (owned-first f y d)) w a h
+module _ {s ks q : List ℕ} {e start from room n : ℕ} {marks out : List ℕ} (c : Marking (OwnsFrom s ks q e start) (OwnsFrom s ks q e from) marks room n out) where
+  pub turn : {p m : ℕ} {marks′ after : List ℕ} {r : Insertion} → First s q e from p → Stepped (owner ks p) n marks marks′ out after r → r ≡ Held m
+      → Marking (OwnsFrom s ks q e start) (OwnsFrom s ks q e (p + length q)) marks′ room m after
+  turn {p} {m} f (joined i o a) h =
+      mark-add c (later-owned f) (first-owned f i o) m
+      (λ y d. ⊎-elim (λ (g : owner ks p ≡ Entry y). inl (let k : y ≡ i = cc in k)) (λ (g : OwnsFrom s ks q e (p + length q) y). inr g) (owned-first f y d)) a h
+  turn {p} {m} f (passed o k w a) h =
+      mark-pass c (later-owned f) (λ y d. ⊎-elim (λ (g : owner ks p ≡ Entry y). absurd (let z : _≡_ {A = ℕ} 0 1 = cc in omega arith)) (λ (g : OwnsFrom s ks q e (p + length q) y). g) (owned-first f y d)) k w a h
 
-  pub no-room : {p : ℕ} {after : List ℕ} {r : Insertion} → First s q e from p → Stepped (owner ks p) n out after r → r ≡ Full
+  pub no-room : {p : ℕ} {marks′ after : List ℕ} {r : Insertion} → First s q e from p → Stepped (owner ks p) n marks marks′ out after r → r ≡ Full
       → (l : List ℕ) → SetOf (OwnsFrom s ks q e start) l → room < length l
-  no-room {p} {after} {r} f (joined i o ins) h = collect-full c (later-owned f) i (first-owned f i o) after r ins h
-  no-room {p} {after} {r} f (passed o w a) h = absurd (let z : _≡_ {A = ℕ} 0 1 = cc in omega arith)
+  no-room f (joined i o a) h = mark-full c (first-owned f i o) a h
+  no-room {r = r} f (passed o k w a) h = absurd (let z : _≡_ {A = ℕ} 0 1 = cc in omega arith)

@@ -9,9 +9,9 @@ use lib.Dec.{ltb}
 use Rattle.words.specs.Padded.{zeros}
 use Rattle.refusal.specs.Refusals.{refusalNumber, tooLarge, largestFile}
 use Rattle.words.specs.Rising.{Rising}
-use Rattle.rising.specs.Rising.{Inserts}
 use Rattle.rising.specs.declared.Insertion.{Insertion}
 use Rattle.rising.specs.declared.Insertion.the-variants.{Held}
+use Rattle.marked_set.specs.Marked.{Added}
 use Rattle.string_search.specs.declared.Owner.{Owner}
 use Rattle.string_search.specs.declared.Owner.the-variants.{Entry, Absent}
 use Rattle.string_search.specs.declared.Fault.{Fault}
@@ -60,7 +60,7 @@ pub record Ready (s ks q : List ℕ) (e from : ℕ) (out : List ℕ) : Type 0 wh
   pub rising : Rising ks
   pub clear : out ≡ zeros (length out)
 
--- one find: an owner is inserted
-pub data Stepped (o : Owner) (n : ℕ) (before after : List ℕ) (r : Insertion) : Type 0 where
-  joined : (i : ℕ) → o ≡ Entry i → Inserts i n before after r → Stepped o n before after r
-  passed : o ≡ Absent → after ≡ before → r ≡ Held n → Stepped o n before after r
+-- one find: an owner joins the set
+pub data Stepped (o : Owner) (n : ℕ) (marks marks′ before after : List ℕ) (r : Insertion) : Type 0 where
+  joined : (i : ℕ) → o ≡ Entry i → Added i n marks marks′ before after r → Stepped o n marks marks′ before after r
+  passed : o ≡ Absent → marks′ ≡ marks → after ≡ before → r ≡ Held n → Stepped o n marks marks′ before after r

@@ -1,5 +1,5 @@
 // String search (`_match_string_offset` of string_locator.rs): the indices of the strings in which the query's bytes are found. The
-// text area is read once; the owner of each find is looked up among the sorted keys.
+// text area is read once; the owner of each find is looked up among the sorted keys, and marked.
 use refusal::Answer;
 use refusal::Refusal;
 use rising::Insertion;
@@ -9,6 +9,7 @@ ghost use lib.ListN.{length};
 ghost use Rattle.words.specs.Padded.{zeros};
 ghost use Rattle.words.specs.Rising.{Rising};
 ghost use Rattle.rising.specs.Found.{Found, Matched};
+ghost use Rattle.marked_set.specs.Marked.{Blank};
 ghost use Rattle.string_search.specs.Finds.{Stands, NextFind};
 ghost use Rattle.string_search.specs.Keys.{owner};
 ghost use Rattle.string_search.specs.Search.{Decides, Ready, Searched, Stepped, OwnsFrom, Owns, faultNumber, searchFault};
@@ -76,18 +77,77 @@ fn owner_of(keys: &[u64], at: usize) -> Owner
     Owner::Entry((keys[n - 1] % 4294967296) as u32)
 }
 
-// One find: the matcher goes on only with an entry, whose index joins the n words held.
-fn match_step(keys: &[u64], at: usize, out: &mut [u32], n: usize) -> Insertion
+// One find: the matcher goes on only with an entry, whose index joins the set.
+fn match_step(keys: &[u64], at: usize, marks: &mut [u64], out: &mut [u32], n: usize) -> Insertion
     requires { ⌜ Rising (now keys) × (at < 16777217) ⌝ }
-    ensures { λ r. ⌜ Stepped (owner (now (keys .entry)) at) n (now (out .entry)) (now (out .exit)) r ⌝ }
+    ensures { λ r. ⌜ Stepped (owner (now (keys .entry)) at) n (now (marks .entry)) (now (marks .exit)) (now (out .entry)) (now (out .exit)) r ⌝ }
 {
     let Owner::Entry(index) = owner_of(keys, at) else {
         return Insertion::Held(n);
     };
-    rising::insert(out, n, index)
+    marked_set::add(marks, out, n, index)
 }
 
-// The owners of all finds from `start` on.
+// The owners of all finds from `start` on. They come in the order of their data, and not of their indices, so they are marked first.
+fn match_marked(
+    file: &[u8],
+    keys: &[u64],
+    start: usize,
+    end: usize,
+    query: &[u8],
+    marks: &mut [u64],
+    out: &mut [u32],
+) -> Insertion
+    requires { ⌜ Ready (now file) (now keys) (now query) end start (now out) × Blank (now marks) ⌝ }
+    ensures { λ r. ⌜ Matched (OwnsFrom (now (file .entry)) (now (keys .entry)) (now (query .entry)) end start) (now (out .entry)) (now (out .exit)) r ⌝ }
+{
+    let mut from = start;
+    let mut n = 0;
+    loop {
+        let Next::At(at) = next_find(file, from, end, query) else {
+            return index_set::gather(marks, out, n);
+        };
+        from = at + query.len();
+        let Insertion::Held(m) = match_step(keys, at, marks, out, n) else {
+            return Insertion::Full;
+        };
+        n = m;
+    }
+}
+
+// With marks for the indices of 32,768 strings.
+fn match_few(
+    file: &[u8],
+    keys: &[u64],
+    start: usize,
+    end: usize,
+    query: &[u8],
+    out: &mut [u32],
+) -> Insertion
+    requires { ⌜ Ready (now file) (now keys) (now query) end start (now out) ⌝ }
+    ensures { λ r. ⌜ Matched (OwnsFrom (now (file .entry)) (now (keys .entry)) (now (query .entry)) end start) (now (out .entry)) (now (out .exit)) r ⌝ }
+{
+    let mut marks = [0u64; 512];
+    match_marked(file, keys, start, end, query, &mut marks, out)
+}
+
+// With marks for the indices of 4,194,304 strings: a file has no more.
+fn match_many(
+    file: &[u8],
+    keys: &[u64],
+    start: usize,
+    end: usize,
+    query: &[u8],
+    out: &mut [u32],
+) -> Insertion
+    requires { ⌜ Ready (now file) (now keys) (now query) end start (now out) ⌝ }
+    ensures { λ r. ⌜ Matched (OwnsFrom (now (file .entry)) (now (keys .entry)) (now (query .entry)) end start) (now (out .entry)) (now (out .exit)) r ⌝ }
+{
+    let mut marks = [0u64; 65536];
+    match_marked(file, keys, start, end, query, &mut marks, out)
+}
+
+// Which marks are taken changes the time and not the owners: of n strings' keys the indices are below n.
 fn match_string_offset(
     file: &[u8],
     keys: &[u64],
@@ -99,18 +159,10 @@ fn match_string_offset(
     requires { ⌜ Ready (now file) (now keys) (now query) end start (now out) ⌝ }
     ensures { λ r. ⌜ Matched (OwnsFrom (now (file .entry)) (now (keys .entry)) (now (query .entry)) end start) (now (out .entry)) (now (out .exit)) r ⌝ }
 {
-    let mut from = start;
-    let mut n = 0;
-    loop {
-        let Next::At(at) = next_find(file, from, end, query) else {
-            return Insertion::Held(n);
-        };
-        from = at + query.len();
-        let Insertion::Held(m) = match_step(keys, at, out, n) else {
-            return Insertion::Full;
-        };
-        n = m;
+    if keys.len() <= 32768 {
+        return match_few(file, keys, start, end, query, out);
     }
+    match_many(file, keys, start, end, query, out)
 }
 
 // The faults that the searches share, in order, for a query of so many bytes, of which the operation asks `shortest` at least.
@@ -156,7 +208,7 @@ pub fn locate(
         return Answer::Done(0);
     }
     let Insertion::Held(n) = match_string_offset(file, keys, start, end, query, out) else {
-        words::clear(out);
+        words::fill(out, 0);
         return Answer::Refused(Refusal::LentTooShort);
     };
     Answer::Done(n)

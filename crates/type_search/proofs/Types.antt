@@ -7,49 +7,25 @@ use mathlib.Core.Path.{_≡_, sym, subst}
 use mathlib.Core.Bool.{false}
 use mathlib.Core.Logic.{_⊎_, inl, inr, ⊎-elim}
 use mathlib.Core.List.{List, [], _∷_}
-use lib.ListN.{length, getD, take, drop}
-use lib.Seq.{length-take-le}
+use lib.ListN.{length, getD, drop}
 use lib.Dec.{eqb}
 use borrow.Author.Tests.{lt-ltb, le-ltb}
 use Rattle.refusal.specs.declared.Refusal.{Refusal}
 use Rattle.refusal.specs.Refusals.{refusalNumber}
 use Rattle.group_slice.specs.Stretch.{stretchOf}
-use Rattle.words.specs.Rising.{Rising}
 use Rattle.rising.specs.Rising.{In, SetOf}
 use Rattle.rising.specs.Found.{Matched}
 use Rattle.rising.specs.declared.Insertion.{Insertion}
 use Rattle.rising.specs.declared.Insertion.the-variants.{Held, Full}
-use Rattle.rising.proofs.Sets.{in-none, in-here, in-cons, in-cases, in-drop-here, in-drop-later, in-drop-cases, in-drop-none, Listed, set-none, set-same, set-union, set-of-list}
-use Rattle.rising.proofs.Collected.{Collected, collect-union, union-full, held-length, held-front}
+use Rattle.rising.proofs.Sets.{in-none, in-here, in-cons, in-cases, in-drop-here, in-drop-later, in-drop-cases, in-drop-none, Listed, set-none, set-same, set-union}
+use Rattle.marked_set.specs.Marked.{AddedAll}
+use Rattle.marked_set.proofs.Marking.{Marking, mark-all, mark-all-full}
 use Rattle.refusal.proofs.Numbers.{numbered}
 use Rattle.rising.proofs.Found.{matched-same}
 use Rattle.string_search.specs.Search.{Owns, searchFault}
 use Rattle.string_search.proofs.Listing.{owners-listed}
 use Rattle.string_search.proofs.Faults.{no-fault, fault-none}
-use Rattle.type_search.specs.Types.{TypesOf, TypeFound, orShort, Holding, HeldOr}
-
--- words held, and further words to come
-pub extend-start : (n : ℕ) (w more : List ℕ) → Holding n w → Collected (HeldOr n w more) (λ x. In x more) (length w) n w
-extend-start n w more h = record {
-  list = take n w;
-  words = h .words;
-  count = length-take-le n w (h .inside);
-  fits = h .inside;
-  rising = h .rising;
-  sound = λ x i. inl i;
-  rest = λ x i. inr i;
-  complete = λ x q. q;
-}
-
-pub holding : {P R : ℕ → Type 0} {room n : ℕ} {out : List ℕ} → Collected P R room n out → Holding n out
-holding {P} {R} {room} {n} {out} c =
-    let l : length out ≡ room = held-length c in
-    let f : take n out ≡ c .list = held-front c in
-    record {
-      inside = omega (arith, c .fits);
-      rising = subst Rising (sym f) (c .rising);
-      words = rw (f, l) (c .words);
-    }
+use Rattle.type_search.specs.Types.{TypesOf, TypeFound, orShort}
 
 module _ (offs ids : List ℕ) where
   -- the strings from i on
@@ -68,18 +44,18 @@ module _ (offs ids : List ℕ) where
     types-later : (x : ℕ) → TypesOf offs ids (drop (i + 1) strings) x → TypesOf offs ids (drop i strings) x
     types-later x t = record { string = t .string; listed = in-drop-later strings i h (t .string) (t .listed); among = t .among }
 
-    module _ {room n : ℕ} {out after : List ℕ} {r : Insertion} (c : Collected (TypesOf offs ids strings) (TypesOf offs ids (drop i strings)) room n out)
-        (group : List ℕ) (g : group ≡ stretchOf offs ids (getD strings i 0)) (w : Matched (HeldOr n out group) out after r) where
+    module _ {room n : ℕ} {marks marks′ out after : List ℕ} {r : Insertion} (c : Marking (TypesOf offs ids strings) (TypesOf offs ids (drop i strings)) marks room n out)
+        (group : List ℕ) (g : group ≡ stretchOf offs ids (getD strings i 0)) (w : AddedAll group n marks marks′ out after r) where
       in-group : (x : ℕ) → In x group → TypesOf offs ids (drop i strings) x
       in-group x m = types-here x (subst (In x) g m)
 
-      pub turn : (m : ℕ) → r ≡ Held m → Collected (TypesOf offs ids strings) (TypesOf offs ids (drop (i + 1) strings)) room m after
+      pub turn : (m : ℕ) → r ≡ Held m → Marking (TypesOf offs ids strings) (TypesOf offs ids (drop (i + 1) strings)) marks′ room m after
       turn m e =
-          collect-union c types-later in-group w
-          (λ x t. ⊎-elim (λ (k : In x (stretchOf offs ids (getD strings i 0))). inl (subst (In x) (sym g) k)) (λ (k : TypesOf offs ids (drop (i + 1) strings) x). inr k) (types-cases x t)) m e
+          mark-all c types-later in-group m
+          (λ x t. ⊎-elim (λ (k : In x (stretchOf offs ids (getD strings i 0))). inl (subst (In x) (sym g) k)) (λ (k : TypesOf offs ids (drop (i + 1) strings) x). inr k) (types-cases x t)) w e
 
       pub no-room : r ≡ Full → (l : List ℕ) → SetOf (TypesOf offs ids strings) l → room < length l
-      no-room e = union-full c types-later in-group w (set-union (set-of-list (take n out)) group) e
+      no-room e = mark-all-full c in-group w e
 
   types-listed : (strings : List ℕ) → Listed (TypesOf offs ids strings)
   types-listed [] = set-none (λ x t. in-none (t .listed))

@@ -39,15 +39,5 @@ pub record Searched (s ks : List ℕ) (a e : ℕ) (q offs ids : List ℕ) (r : A
   pub cleared : scratch′ ≡ zeros (length scratch)
 
 -- ---- what the inner steps are asked
--- w holds a rising list of n words
-pub record Holding (n : ℕ) (w : List ℕ) : Type 0 where
-  pub inside : n ≤ length w
-  pub rising : Rising (take n w)
-  pub words : w ≡ padded (length w) (take n w)
-
--- x is held, or among the further words
-abbrev pub HeldOr : ℕ → List ℕ → List ℕ → ℕ → Type 0
-HeldOr n w more x = In x (take n w) ⊎ In x more
-
 abbrev pub Ready : List ℕ → Type 0
 Ready out = out ≡ zeros (length out)

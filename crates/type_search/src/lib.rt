@@ -6,34 +6,25 @@ use string_search::Fault;
 ghost use mathlib.Core.Path.{_≡_};
 ghost use lib.ListN.{length};
 ghost use Rattle.rising.specs.Found.{Matched};
-ghost use Rattle.type_search.specs.Types.{Holding, HeldOr, TypesOf, Ready, Searched};
+ghost use Rattle.marked_set.specs.Marked.{Blank};
+ghost use Rattle.type_search.specs.Types.{TypesOf, Ready, Searched};
 
-// Every word of `more` joins the n words held.
-fn extend(w: &mut [u32], n: usize, more: &[u32]) -> Insertion
-    requires { ⌜ Holding n (now w) ⌝ }
-    ensures { λ r. ⌜ Matched (HeldOr n (now (w .entry)) (now (more .entry))) (now (w .entry)) (now (w .exit)) r ⌝ }
-{
-    let mut held = n;
-    let mut i = 0;
-    while i < more.len() {
-        let Insertion::Held(m) = rising::insert(w, held, more[i]) else {
-            return Insertion::Full;
-        };
-        held = m;
-        i += 1;
-    }
-    Insertion::Held(held)
-}
-
-// The types of all strings found.
-fn collect(str_offsets: &[u32], type_idxs: &[u32], found: &[u32], out: &mut [u32]) -> Insertion
-    requires { ⌜ Ready (now out) ⌝ }
+// The types of all strings found. They come string by string, and not in the order of their indices, so they are marked first.
+fn collect_marked(
+    str_offsets: &[u32],
+    type_idxs: &[u32],
+    found: &[u32],
+    marks: &mut [u64],
+    out: &mut [u32],
+) -> Insertion
+    requires { ⌜ Ready (now out) × Blank (now marks) ⌝ }
     ensures { λ r. ⌜ Matched (TypesOf (now («str_offsets» .entry)) (now («type_idxs» .entry)) (now (found .entry))) (now (out .entry)) (now (out .exit)) r ⌝ }
 {
     let mut n = 0;
     let mut i = 0;
     while i < found.len() {
-        let Insertion::Held(m) = extend(
+        let Insertion::Held(m) = marked_set::extend(
+            marks,
             out,
             n,
             group_slice::slice(str_offsets, type_idxs, found[i]),
@@ -43,7 +34,47 @@ fn collect(str_offsets: &[u32], type_idxs: &[u32], found: &[u32], out: &mut [u32
         n = m;
         i += 1;
     }
-    Insertion::Held(n)
+    index_set::gather(marks, out, n)
+}
+
+// With marks for 65,536 types: an instruction names no more.
+fn collect_few(str_offsets: &[u32], type_idxs: &[u32], found: &[u32], out: &mut [u32]) -> Insertion
+    requires { ⌜ Ready (now out) ⌝ }
+    ensures { λ r. ⌜ Matched (TypesOf (now («str_offsets» .entry)) (now («type_idxs» .entry)) (now (found .entry))) (now (out .entry)) (now (out .exit)) r ⌝ }
+{
+    let mut marks = [0u64; 1024];
+    collect_marked(str_offsets, type_idxs, found, &mut marks, out)
+}
+
+// With marks for 4,194,304 types: a file has no more.
+fn collect_many(str_offsets: &[u32], type_idxs: &[u32], found: &[u32], out: &mut [u32]) -> Insertion
+    requires { ⌜ Ready (now out) ⌝ }
+    ensures { λ r. ⌜ Matched (TypesOf (now («str_offsets» .entry)) (now («type_idxs» .entry)) (now (found .entry))) (now (out .entry)) (now (out .exit)) r ⌝ }
+{
+    let mut marks = [0u64; 65536];
+    collect_marked(str_offsets, type_idxs, found, &mut marks, out)
+}
+
+// The greatest word, 0 of none.
+fn greatest(w: &[u32]) -> u32 {
+    let mut most: u32 = 0;
+    let mut i = 0;
+    while i < w.len() {
+        most = words::greater(most, w[i]);
+        i += 1;
+    }
+    most
+}
+
+// Which marks are taken changes the time and not the types.
+fn collect(str_offsets: &[u32], type_idxs: &[u32], found: &[u32], out: &mut [u32]) -> Insertion
+    requires { ⌜ Ready (now out) ⌝ }
+    ensures { λ r. ⌜ Matched (TypesOf (now («str_offsets» .entry)) (now («type_idxs» .entry)) (now (found .entry))) (now (out .entry)) (now (out .exit)) r ⌝ }
+{
+    if greatest(type_idxs) < 65536 {
+        return collect_few(str_offsets, type_idxs, found, out);
+    }
+    collect_many(str_offsets, type_idxs, found, out)
 }
 
 // The types whose string owns a find of the query. `strings` is lent for the strings found, and is zero afterwards. The empty query
@@ -74,7 +105,7 @@ pub fn locate(
         return Answer::Refused(Refusal::LentTooShort);
     };
     let found = collect(str_offsets, type_idxs, &strings[..n], out);
-    words::clear(strings);
+    words::fill(strings, 0);
     let Insertion::Held(m) = found else {
         words::clear(out);
         return Answer::Refused(Refusal::LentTooShort);

@@ -56,8 +56,8 @@ enum-known-n c = search needs
 enum-told-2 : tie.Need-enum-told-2
 enum-told-2 c = search needs
 
-clear-requires-2 : tie.Need-clear-requires-2
-clear-requires-2 c κs = search needs
+fill-requires : tie.Need-fill-requires
+fill-requires c κs = search needs
 
 same-length-4 : tie.Need-same-length-4
 same-length-4 c = search needs
@@ -67,7 +67,7 @@ returns-4 c =
     let ok = no-fault _ _ _ _ (sym (ap faultNumber (c .before .before .before .before .before .before .before .before .before .before .before .before .enum-told .given .1)) ∙ c .before .before .before .before .before .before .before .before .before .before .before .before .before .before .search-fault .ensures) in
     let m = c .before .before .before .before .before .before .before .before .match-string-offset in
     let z = zeros-length _ _ (c .before .before .before .before .before .before .before .before .before .before .before .before .before .before .before .before .before .clear .ensures) in
-    exit-short (in-area _ _ _ _ _ (ok .least) (c .before .before .before .before .before .before .before .before .before .before .before .if1 .left) (c .before .before .before .before .before .before .before .before .before .before .if2 .left) (m .ensures)) _ (sym (ap faultNumber (c .before .before .before .before .before .before .before .before .before .before .before .before .enum-told .given .1)) ∙ c .before .before .before .before .before .before .before .before .before .before .before .before .before .before .search-fault .ensures) _ z (owners-listed _ _ _ _ _) _ (c .before .before .before .before .enum-told2 .given .1) (omega (arith, m .kept)) (c .before .before .clear2 .ensures)
+    exit-short (in-area _ _ _ _ _ (ok .least) (c .before .before .before .before .before .before .before .before .before .before .before .if1 .left) (c .before .before .before .before .before .before .before .before .before .before .if2 .left) (m .ensures)) _ (sym (ap faultNumber (c .before .before .before .before .before .before .before .before .before .before .before .before .enum-told .given .1)) ∙ c .before .before .before .before .before .before .before .before .before .before .before .before .before .before .search-fault .ensures) _ z (owners-listed _ _ _ _ _) _ (c .before .before .before .before .enum-told2 .given .1) (omega (arith, m .kept)) (c .before .before .fill .ensures)
 
 same-length-5 : tie.Need-same-length-5
 same-length-5 c = search needs
@@ -94,7 +94,7 @@ locate-spec =
     match-string-offset-requires
     enum-known-n
     enum-told-2
-    clear-requires-2
+    fill-requires
     same-length-4
     returns-4
     same-length-5

@@ -1,8 +1,7 @@
-use Rattle.string_search.specs.Search.{joined, passed}
+use borrow.Author.Needs.{needs}
 use mathlib.Core.Path.{refl, sym}
 use Rattle.words.proofs.Shared.{met}
-use mathlib.Core.Path.{refl}
-use borrow.Author.Needs.{needs}
+use Rattle.string_search.specs.Search.{joined, passed}
 use Rattle.string_search.proofs.match_step.Statement.{statement}
 use Rattle.string_search.proofs.match_step.Tie as tie
 
@@ -16,16 +15,19 @@ enum-told : tie.Need-enum-told
 enum-told c = search needs
 
 returns : tie.Need-returns
-returns c = passed (sym (met (c .enum-told .given .1) (c .before .before .owner-of .ensures))) refl refl
+returns c = passed (sym (met (c .enum-told .given .1) (c .before .before .owner-of .ensures))) refl refl refl
 
-insert-requires : tie.Need-insert-requires
-insert-requires c κs = search needs
+add-requires : tie.Need-add-requires
+add-requires c κs = search needs
 
 same-length : tie.Need-same-length
 same-length c = search needs
 
+same-length-2 : tie.Need-same-length-2
+same-length-2 c = search needs
+
 returns-2 : tie.Need-returns-2
-returns-2 c = joined _ (sym (met (c .before .before .before .before .before .index .given .1) (c .before .before .before .before .before .before .before .owner-of .ensures))) (c .before .before .insert .ensures)
+returns-2 c = joined _ (sym (met (c .before .before .before .before .before .before .before .before .index .given .1) (c .before .before .before .before .before .before .before .before .before .before .owner-of .ensures))) (c .before .before .before .before .add .ensures)
 
 pub match-step-spec : {M : Type 1} → statement M
 match-step-spec =
@@ -35,6 +37,7 @@ match-step-spec =
     enum-known-index
     enum-told
     returns
-    insert-requires
+    add-requires
     same-length
+    same-length-2
     returns-2)

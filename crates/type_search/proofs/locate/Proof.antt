@@ -82,8 +82,8 @@ slice-aggregate-collect c = sym (length-take-le _ _ (held-fit (c .before .before
 collect-requires : tie.Need-collect-requires
 collect-requires c κs = zeros-again (length (c .before .before .before .before .before .before .before .before .before .before .before .before .before .before .before .before .before .before .before .before .before .before .before .before .before .before .before .before .args .out .now)) _ (c .before .before .before .before .before .before .before .before .before .before .before .before .before .before .before .clear2 .ensures)
 
-clear-requires-3 : tie.Need-clear-requires-3
-clear-requires-3 c κs = search needs
+fill-requires : tie.Need-fill-requires
+fill-requires c κs = search needs
 
 enum-known-found : tie.Need-enum-known-found
 enum-known-found c = search needs
@@ -91,11 +91,11 @@ enum-known-found c = search needs
 enum-told-3 : tie.Need-enum-told-3
 enum-told-3 c = search needs
 
-clear-requires-4 : tie.Need-clear-requires-4
-clear-requires-4 c κs = search needs
+clear-requires-3 : tie.Need-clear-requires-3
+clear-requires-3 c κs = search needs
 
 same-length-7 : tie.Need-same-length-7
-same-length-7 c = search needs
+same-length-7 c = omega (arith, c .before .before .before .before .before .before .before .before .fill .kept, c .before .before .before .before .before .before .before .before .before .before .before .before .before .before .before .before .before .before .before .before .locate .kept, c .before .before .before .before .before .before .before .before .before .before .before .before .before .before .before .before .before .before .before .before .before .before .before .before .before .before .before .before .before .before .before .before .clear .kept)
 
 same-length-8 : tie.Need-same-length-8
 same-length-8 c = search needs
@@ -105,7 +105,7 @@ returns-4 c =
     let a = c .before .before .before .before .before .before .before .before .before .before .before .before .before .before .before .before .before .before .before .before .before .before .before .before .before .before .before .before .before .before .before .before .before .before .before .before .before .before .before .before .before .args in
     let zs = c .before .before .before .before .before .before .before .before .before .before .before .before .before .before .before .before .before .before .before .before .before .before .before .before .before .before .before .before .before .before .before .before .clear .ensures in
     let zo = c .before .before .before .before .before .before .before .before .before .before .before .before .before .before .before .before .before .before .before .before .before .before .before .before .before .before .before .before .clear2 .ensures in
-    exit-types (a .file .now) (a .keys .now) (a .start) (a .end) (a .query .now) (a .str-offsets .now) (a .type-idxs .now) (a .strings .now) (a .out .now) _ _ zs zo (sym (ap faultNumber (c .before .before .before .before .before .before .before .before .before .before .before .before .before .before .before .before .before .before .before .before .before .before .before .enum-told .given .1)) ∙ c .before .before .before .before .before .before .before .before .before .before .before .before .before .before .before .before .before .before .before .before .before .before .before .before .before .search-fault .ensures) (c .before .before .before .before .before .before .before .before .before .before .before .before .before .before .before .before .before .before .before .before .locate .ensures) _ (c .before .before .before .before .before .before .before .before .before .before .before .before .before .before .before .before .n .given .1) _ (c .before .before .before .before .before .before .before .before .clear3 .ensures) (omega (arith, c .before .before .before .before .before .before .before .before .before .before .before .before .before .before .before .before .before .before .before .before .locate .kept)) (c .before .before .before .before .before .before .before .before .before .before .before .before .collect .ensures) _ (c .before .before .before .before .enum-told3 .given .1) (omega (arith, c .before .before .before .before .before .before .before .before .before .before .before .before .collect .kept)) (c .before .before .clear4 .ensures)
+    exit-types (a .file .now) (a .keys .now) (a .start) (a .end) (a .query .now) (a .str-offsets .now) (a .type-idxs .now) (a .strings .now) (a .out .now) _ _ zs zo (sym (ap faultNumber (c .before .before .before .before .before .before .before .before .before .before .before .before .before .before .before .before .before .before .before .before .before .before .before .enum-told .given .1)) ∙ c .before .before .before .before .before .before .before .before .before .before .before .before .before .before .before .before .before .before .before .before .before .before .before .before .before .search-fault .ensures) (c .before .before .before .before .before .before .before .before .before .before .before .before .before .before .before .before .before .before .before .before .locate .ensures) _ (c .before .before .before .before .before .before .before .before .before .before .before .before .before .before .before .before .n .given .1) _ (c .before .before .before .before .before .before .before .before .fill .ensures) (omega (arith, c .before .before .before .before .before .before .before .before .before .before .before .before .before .before .before .before .before .before .before .before .locate .kept)) (c .before .before .before .before .before .before .before .before .before .before .before .before .collect .ensures) _ (c .before .before .before .before .enum-told3 .given .1) (omega (arith, c .before .before .before .before .before .before .before .before .before .before .before .before .collect .kept)) (c .before .before .clear3 .ensures)
 
 same-length-9 : tie.Need-same-length-9
 same-length-9 c = search needs
@@ -118,7 +118,7 @@ returns-5 c =
     let a = c .before .before .before .before .before .before .before .before .before .before .before .before .before .before .before .before .before .before .before .before .before .before .before .before .before .before .before .before .before .before .before .before .before .before .before .before .before .before .args in
     let zs = c .before .before .before .before .before .before .before .before .before .before .before .before .before .before .before .before .before .before .before .before .before .before .before .before .before .before .before .before .before .clear .ensures in
     let zo = c .before .before .before .before .before .before .before .before .before .before .before .before .before .before .before .before .before .before .before .before .before .before .before .before .before .clear2 .ensures in
-    exit-done (a .file .now) (a .keys .now) (a .start) (a .end) (a .query .now) (a .str-offsets .now) (a .type-idxs .now) (a .strings .now) (a .out .now) _ _ zs zo (sym (ap faultNumber (c .before .before .before .before .before .before .before .before .before .before .before .before .before .before .before .before .before .before .before .before .enum-told .given .1)) ∙ c .before .before .before .before .before .before .before .before .before .before .before .before .before .before .before .before .before .before .before .before .before .before .search-fault .ensures) (c .before .before .before .before .before .before .before .before .before .before .before .before .before .before .before .before .before .locate .ensures) _ (c .before .before .before .before .before .before .before .before .before .before .before .before .before .n .given .1) _ (c .before .before .before .before .before .clear3 .ensures) (omega (arith, c .before .before .before .before .before .before .before .before .before .before .before .before .before .before .before .before .before .locate .kept)) (c .before .before .before .before .before .before .before .before .before .collect .ensures) _ (c .before .found .given .1)
+    exit-done (a .file .now) (a .keys .now) (a .start) (a .end) (a .query .now) (a .str-offsets .now) (a .type-idxs .now) (a .strings .now) (a .out .now) _ _ zs zo (sym (ap faultNumber (c .before .before .before .before .before .before .before .before .before .before .before .before .before .before .before .before .before .before .before .before .enum-told .given .1)) ∙ c .before .before .before .before .before .before .before .before .before .before .before .before .before .before .before .before .before .before .before .before .before .before .search-fault .ensures) (c .before .before .before .before .before .before .before .before .before .before .before .before .before .before .before .before .before .locate .ensures) _ (c .before .before .before .before .before .before .before .before .before .before .before .before .before .n .given .1) _ (c .before .before .before .before .before .fill .ensures) (omega (arith, c .before .before .before .before .before .before .before .before .before .before .before .before .before .before .before .before .before .locate .kept)) (c .before .before .before .before .before .before .before .before .before .collect .ensures) _ (c .before .found .given .1)
 
 pub locate-spec : {M : Type 1} → statement M
 locate-spec =
@@ -144,10 +144,10 @@ locate-spec =
     slice-reshare-prefix-collect
     slice-aggregate-collect
     collect-requires
-    clear-requires-3
+    fill-requires
     enum-known-found
     enum-told-3
-    clear-requires-4
+    clear-requires-3
     same-length-7
     same-length-8
     returns-4

@@ -1,0 +1,21 @@
+use borrow.Author.Needs.{needs}
+use native.Mathlib.Omega.{arith}
+use Rattle.marked_set.proofs.Marking.{blank}
+use Rattle.string_search.proofs.match_many.Statement.{statement}
+use Rattle.string_search.proofs.match_many.Tie as tie
+
+slice-aggregate-match-marked : tie.Need-slice-aggregate-match-marked
+slice-aggregate-match-marked c = search needs
+
+match-marked-requires : tie.Need-match-marked-requires
+match-marked-requires c κs = (c .before .before .before .before .before .before .pre, blank 65536 (omega arith))
+
+same-length : tie.Need-same-length
+same-length c = search needs
+
+returns : tie.Need-returns
+returns c = search needs
+
+pub match-many-spec : {M : Type 1} → statement M
+match-many-spec =
+    tie.close (tie.spec slice-aggregate-match-marked match-marked-requires same-length returns)

@@ -1,0 +1,21 @@
+use borrow.Author.Needs.{needs}
+use native.Mathlib.Omega.{arith}
+use Rattle.marked_set.proofs.Marking.{blank}
+use Rattle.type_search.proofs.collect_few.Statement.{statement}
+use Rattle.type_search.proofs.collect_few.Tie as tie
+
+slice-aggregate-collect-marked : tie.Need-slice-aggregate-collect-marked
+slice-aggregate-collect-marked c = search needs
+
+collect-marked-requires : tie.Need-collect-marked-requires
+collect-marked-requires c κs = (c .before .before .before .before .before .before .pre, blank 1024 (omega arith))
+
+same-length : tie.Need-same-length
+same-length c = search needs
+
+returns : tie.Need-returns
+returns c = search needs
+
+pub collect-few-spec : {M : Type 1} → statement M
+collect-few-spec =
+    tie.close (tie.spec slice-aggregate-collect-marked collect-marked-requires same-length returns)
