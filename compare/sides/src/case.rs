@@ -2,10 +2,11 @@
 
 use std::fmt::Write;
 
-/// The 13 operations of the replay list, and the finder, which is build, scan and locate in one.
-pub const OPS: [&str; 14] = [
+/// The 13 operations, the four functions that hand back a part of a slice, and the finder, which is build, scan and locate in one. All but
+/// the finder have this number in the replay list.
+pub const OPS: [&str; 18] = [
     "type_groups", "method_groups", "group", "string_map", "string_bytes", "string_search", "type_search", "method_search",
-    "name_filter", "code_table", "scan", "locate", "list_slot", "find",
+    "name_filter", "code_table", "scan", "locate", "list_slot", "string_data_bytes", "types_of", "clz_slice", "name_slice", "find",
 ];
 
 pub const TYPE_GROUPS: u32 = 1;
@@ -21,7 +22,29 @@ pub const CODE_TABLE: u32 = 10;
 pub const SCAN: u32 = 11;
 pub const LOCATE: u32 = 12;
 pub const LIST_SLOT: u32 = 13;
-pub const FIND: u32 = 14;
+pub const STRING_DATA_BYTES: u32 = 14;
+pub const TYPES_OF: u32 = 15;
+pub const CLZ_SLICE: u32 = 16;
+pub const NAME_SLICE: u32 = 17;
+pub const FIND: u32 = 18;
+
+/// Whether a function hands back a part of a slice. C has no form for it: the program `replay` calls it, and writes the part's length and
+/// the part.
+pub fn hands_back_part(op: u32) -> bool {
+    (STRING_DATA_BYTES..=NAME_SLICE).contains(&op)
+}
+
+/// Whether the program `replay` takes a case.
+pub fn replay_takes(case: &Case) -> bool {
+    case.op != FIND
+        && case.file.len() <= 4096
+        && case.query.len() <= 512
+        && case.second.len() <= 512
+        && case.keys.len() <= 512
+        && case.lists.iter().all(|l| l.len() <= 512)
+        && case.lent.iter().all(|&n| n <= 1024)
+        && case.high == 0
+}
 
 /// What every lent word holds before a call; a lent key holds it twice.
 pub const LENT: u32 = 0xa5a5_a5a5;
@@ -152,6 +175,8 @@ pub fn shape(op: u32) -> (usize, usize) {
         SCAN => (1, 2),
         LOCATE => (1, 2),
         LIST_SLOT => (1, 1),
+        // The part itself stands for what is lent: nothing is.
+        STRING_DATA_BYTES | TYPES_OF | CLZ_SLICE | NAME_SLICE => (1, 1),
         FIND => (3, 8),
         _ => unreachable!(),
     }

@@ -76,6 +76,9 @@ impl Digits {
     }
 }
 
+/// Indices at the ends of a word of bits and of the tables in which searches mark what they find, and past these.
+const ENDS: [u32; 11] = [0, 63, 64, 32_767, 32_768, 65_535, 65_536, 4_194_303, 4_194_304, 4_194_400, u32::MAX - 1];
+
 /// The files that random cases begin with.
 pub struct Inputs {
     small: Vec<Dex>,
@@ -94,11 +97,6 @@ impl Inputs {
 
     pub fn case(&self, op: u32, index: u64) -> Case {
         let mut rng = Rng::new(self.seed, op, index);
-        if index % 200_000 == 123_456 {
-            if let Some(c) = largest(op, &mut rng) {
-                return c;
-            }
-        }
         if let Some(case) = (index % 2 == 0).then(|| counted(op, index / 2)).flatten() {
             return case;
         }
@@ -127,6 +125,13 @@ impl Inputs {
             STRING_MAP if rng.one_in(4) => many_strings(rng),
             STRING_MAP => self.with_dex(op, rng),
             STRING_BYTES => self.string_bytes(rng),
+            STRING_DATA_BYTES => loop {
+                let case = Case { op, ..self.string_bytes(rng) };
+                if replay_takes(&case) {
+                    break case;
+                }
+            },
+            TYPES_OF | CLZ_SLICE | NAME_SLICE => Case { op, ..group(rng) },
             STRING_SEARCH | TYPE_SEARCH | METHOD_SEARCH => self.search(op, rng),
             NAME_FILTER => self.name_filter(rng),
             CODE_TABLE => self.with_dex(op, rng),
@@ -225,12 +230,22 @@ impl Inputs {
         let d = self.dex(rng);
         let mut case = d.case(op);
         match d.string_map() {
+            // As many strings as the smaller table of marks has bits for, or some more, their data in falling order.
+            _ if rng.one_in(1000) => {
+                let (from, n) = (case.file.len(), 32_700 + rng.below(140));
+                case.file.extend((0..n).flat_map(|_| [1, if rng.one_in(3) { b'a' } else { b'b' }, 0]));
+                case.keys = (0..n).map(|i| ((from + 3 * i) as u64) << 32 | (n - 1 - i) as u64).collect();
+                (case.numbers[13], case.numbers[14]) = (from as u32, (from + 3 * n) as u32);
+            }
             // One text of two letters behind the file, and many keys in it whose indices are in any order.
             _ if rng.one_in(6) => {
                 let (from, text, n) = (case.file.len(), 20 + rng.below(180), 1 + rng.below(40));
                 let letters: &[u8] = if rng.one_in(2) { b"aab" } else { b"bbbbbbbbbbbbbbbbbbba" };
                 case.file.extend(rng.bytes(text, letters));
-                case.keys = (0..n).map(|_| ((from + rng.below(text)) as u64) << 32 | rng.below(30) as u64).collect();
+                let ends = rng.one_in(3);
+                let mut index = || if ends && rng.one_in(2) { rng.of(&ENDS) as u64 } else { rng.below(30) as u64 };
+                let indices: Vec<u64> = (0..n).map(|_| index()).collect();
+                case.keys = indices.iter().map(|i| ((from + rng.below(text)) as u64) << 32 | i).collect();
                 case.keys.sort();
                 case.keys.dedup();
                 (case.numbers[13], case.numbers[14]) = (from as u32, (from + text) as u32);
@@ -287,6 +302,9 @@ impl Inputs {
             case.lists[..2].clone_from_slice(&d.type_groups());
             if rng.one_in(6) {
                 made_up_groups(&mut case.lists, rng);
+                if rng.one_in(2) {
+                    case.lists[1].iter_mut().for_each(|id| *id = if rng.one_in(2) { rng.of(&ENDS) } else { *id });
+                }
             }
         }
         case
@@ -620,6 +638,9 @@ fn lent(case: &mut Case, lengths: &[u32]) {
 /// Lends what the answer needs, often exactly, now and then a word less or more.
 fn lend(case: &mut Case, rng: &mut Rng) {
     let (_, outs) = shape(case.op);
+    if hands_back_part(case.op) {
+        return;
+    }
     *case = generous(std::mem::take(case));
     let mut needed = [16usize; 8];
     if let Ok((_, lists)) = document::answer(case) {
@@ -636,13 +657,13 @@ fn lend(case: &mut Case, rng: &mut Rng) {
                 }
             }
             LOCATE => needed[0] = case.lists[1].len(),
+            FIND => needed[6] = case.methods().size as usize,
             _ => {}
         }
     }
     let short = rng.one_in(8);
     for i in 0..8 {
-        // The finder's further words: one for each start word lent.
-        let n = if case.op == FIND && i == 6 { case.lent(0) } else { needed[i] };
+        let n = needed[i];
         let n = match rng.below(8) {
             0 | 1 if short => n.saturating_sub(1),
             2 if short => rng.below(n + 1),
@@ -654,53 +675,179 @@ fn lend(case: &mut Case, rng: &mut Rng) {
     }
 }
 
-/// Files at the limit of document 01 and one byte above, and a method index at its limit.
-fn largest(op: u32, rng: &mut Rng) -> Option<Case> {
-    let mut case = Case::new(op);
-    if matches!(op, GROUP | LIST_SLOT) {
-        return None;
-    }
-    let n = LARGEST + rng.below(2);
-    case.file = vec![0; n];
-    case.query = b"a".to_vec();
+/// The cases of every run, however few it makes: a file of document 01's greatest length and one of a byte more, which every operation
+/// refuses (1); a method index at its limit; name filters around the sizes at which ours changes its tables, and above all of them.
+pub fn always(op: u32) -> Vec<Case> {
+    let mut cases: Vec<Case> = [LARGEST, LARGEST + 1].into_iter().flat_map(|n| at_length(op, n)).collect();
     match op {
-        STRING_MAP => (case.numbers[0], case.numbers[1]) = (n as u32 - 4, 1),
-        STRING_BYTES => case.numbers[13] = n as u32 - 2,
+        NAME_FILTER => cases.extend(many_names()),
+        CODE_TABLE => cases.extend([16_777_215, 16_777_216].map(greatest_method)),
+        SCAN => cases.push(great_indices()),
+        _ => {}
+    }
+    cases
+}
+
+/// A file of n bytes, above document 01's limit or at it, and something to find at its end.
+fn at_length(op: u32, n: usize) -> Vec<Case> {
+    let mut case = Case::new(op);
+    case.file = vec![0; n];
+    let end = n as u32;
+    let (_, outs) = shape(op);
+    case.lent[..outs].fill(4);
+    match op {
+        TYPE_GROUPS => case.numbers[1..4].copy_from_slice(&[1, end - 4, 1]),
+        METHOD_GROUPS => {
+            (case.numbers[1], case.numbers[3]) = (1, 1);
+            case.numbers[8..10].copy_from_slice(&[end - 8, 1]);
+        }
+        STRING_MAP => case.numbers[..2].copy_from_slice(&[end - 4, 1]),
+        STRING_BYTES => case.numbers[13] = end - 2,
         STRING_SEARCH | TYPE_SEARCH | METHOD_SEARCH => {
-            (case.numbers[13], case.numbers[14]) = (1, n as u32);
+            // The one find is string 1's, which is type 0's, which is method 0's class.
+            (case.numbers[13], case.numbers[14]) = (1, end);
             case.keys = vec![1 << 32, 5 << 32 | 1];
             case.file[n - 1] = b'a';
+            case.query = b"a".to_vec();
+            if op != STRING_SEARCH {
+                (case.lists[0], case.lists[1]) = (vec![0, 0, 1], vec![0]);
+            }
+            if op == METHOD_SEARCH {
+                case.numbers[8..10].copy_from_slice(&[8, 1]);
+            }
+        }
+        NAME_FILTER => {
+            put(&mut case.file, 0x38, 1);
+            put(&mut case.file, 0x3c, end - 4);
+            case.file[1] = b'A';
+            case.query = b"a".to_vec();
+            case.lists[0] = vec![0];
+        }
+        CODE_TABLE | FIND => {
+            // By class definition: class data at 32, and code in the last block.
+            let code = end / 4 * 4 - 20;
+            let mut data = vec![0, 0, 1, 0, 0, 0];
+            leb(&mut data, code as u64);
+            case.file[24] = 32;
+            case.file[32..32 + data.len()].copy_from_slice(&data);
+            case.file[code as usize + 12] = 2;
+            case.file[code as usize + 16..code as usize + 20].copy_from_slice(&[0x1a, 0, 5, 0]);
+            (case.numbers[9], case.numbers[11], case.numbers[13]) = (1, 1, (op == FIND) as u32);
+            if op == FIND {
+                case.lists[0] = vec![5];
+            }
         }
         SCAN => {
-            (case.numbers[13], case.numbers[14], case.numbers[15]) = (0, n as u32, 1 + rng.below(4) as u32);
-            case.lists[0] = vec![0];
-            let ops = [0x1a, 0x1c, 0x52, 0x6e];
-            case.file[n - 4 - n % 2] = ops[case.numbers[15] as usize - 1];
+            let kinds = [0x1a, 0x1c, 0x52, 0x6e].into_iter().zip(1..);
+            return kinds
+                .map(|(opcode, kind)| {
+                    let mut case = case.clone();
+                    case.numbers[13..].copy_from_slice(&[0, end, kind]);
+                    case.lists[0] = vec![0];
+                    case.file[n - 4 - n % 2] = opcode;
+                    case
+                })
+                .collect();
         }
         LOCATE => {
-            let at = n as u32 - 2;
+            let at = end - 2;
             case.numbers[13] = at / 16;
             case.lists = [vec![1], vec![at / 16 * 16], vec![], vec![at]];
         }
-        CODE_TABLE if rng.one_in(2) => {
-            // By class definition: class data at 32, one method of the greatest index and one more, code at 64.
-            let index = 16_777_215 + rng.below(2) as u64;
-            let mut data = vec![0, 0, 1, 0];
-            [index, 0, 64].iter().for_each(|&x| leb(&mut data, x));
-            case.file = vec![0; 96];
-            case.file[24] = 32;
-            case.file[32..32 + data.len()].copy_from_slice(&data);
-            case.file[76] = 1;
-            case.numbers[11] = 1;
-            case.numbers[9] = 16_777_217;
-            lent(&mut case, &[16_777_217, 3, 1, 0]);
-            return Some(case);
-        }
-        _ => {}
+        // No file, or none that the program `replay` takes.
+        _ => return vec![],
     }
-    let (_, outs) = shape(op);
-    case.lent[..outs].fill(4);
-    Some(case)
+    vec![case]
+}
+
+/// By class definition: class data at 32, one method of this index, code at 64; a method more in the record.
+fn greatest_method(index: u32) -> Case {
+    let mut case = Case::new(CODE_TABLE);
+    let mut data = vec![0, 0, 1, 0];
+    [index as u64, 0, 64].iter().for_each(|&x| leb(&mut data, x));
+    case.file = vec![0; 96];
+    case.file[24] = 32;
+    case.file[32..32 + data.len()].copy_from_slice(&data);
+    case.file[76] = 1;
+    case.numbers[11] = 1;
+    case.numbers[9] = 16_777_217;
+    lent(&mut case, &[16_777_217, 3, 1, 0]);
+    case
+}
+
+/// const-string/jumbo with indices around powers of two, all of them wanted among many others, in falling order.
+fn great_indices() -> Case {
+    let mut case = Case::new(SCAN);
+    let mut wanted: Vec<u32> = (0..5000).collect();
+    for bits in [16, 20, 22, 31] {
+        wanted.extend([-1i64, 0, 1].map(|d| ((1i64 << bits) + d) as u32));
+    }
+    wanted.push(u32::MAX);
+    wanted.reverse();
+    for &index in &wanted[..16] {
+        case.file.extend([0x1b, 0]);
+        case.file.extend(index.to_le_bytes());
+    }
+    case.numbers[13..].copy_from_slice(&[0, case.file.len() as u32, 1]);
+    case.lists[0] = wanted;
+    lent(&mut case, &[64, 64]);
+    case
+}
+
+/// A file of a header, so many string ids and four texts: string i is `ab`, `Xyc` or `b` by the remainder of i by 3. The fourth text, 12 bytes
+/// behind the ids, is not ASCII.
+pub fn file_of_names(count: u32) -> Vec<u8> {
+    let mut file = vec![0; 0x70];
+    put(&mut file, 0x38, count);
+    put(&mut file, 0x3c, 0x70);
+    let texts = 0x70 + 4 * count;
+    file.extend((0..count).flat_map(|i| (texts + [0, 4, 9][i as usize % 3]).to_le_bytes()));
+    file.extend(b"\x02ab\0\x03Xyc\0\x01b\0\x02a\x80\0");
+    file
+}
+
+/// Name filters over many strings, of which one in three contains the query. Given are the indices around every border, and all of them;
+/// and the same with an index too large, a text that is not ASCII, or data outside, among them.
+fn many_names() -> Vec<Case> {
+    const BORDERS: [u32; 6] = [4096, 8192, 65_536, 131_072, 262_144, 1_048_576];
+    let mut cases = Vec::new();
+    for count in BORDERS.iter().flat_map(|&b| [b - 1, b, b + 1]).chain([300_000]) {
+        let mut case = Case::new(NAME_FILTER);
+        case.file = file_of_names(count);
+        let texts = 0x70 + 4 * count;
+        case.query = b"Y".to_vec();
+        let around = BORDERS.iter().chain([&0, &count]).flat_map(|&b| [b.wrapping_sub(1), b, b + 1]);
+        let some: Vec<u32> = around.filter(|&i| i < count).rev().collect();
+        let found = |list: &[u32]| list.iter().filter(|&&i| i % 3 == 1).collect::<std::collections::HashSet<_>>().len() as u32;
+        let mut add = |given: &[u32], change: &dyn Fn(&mut Case)| {
+            let mut case = case.clone();
+            case.lists[0] = given.to_vec();
+            case.lent[0] = found(given);
+            change(&mut case);
+            cases.push(case);
+        };
+        add(&some, &|_| {});
+        add(&some, &|c| c.lent[0] -= 1);
+        let again: Vec<u32> = some.iter().chain(&some).copied().collect();
+        add(&again, &|c| c.lent[0] += 2);
+        add(&again, &|c| c.lists[0].push(count));
+        // The last string's text is not ASCII, or its data are outside.
+        add(&some, &|c| put(&mut c.file, texts as usize - 4, texts + 12));
+        add(&some, &|c| put(&mut c.file, texts as usize - 4, u32::MAX));
+        let all: Vec<u32> = (0..count).rev().collect();
+        if count <= 131_073 {
+            add(&all, &|_| {});
+        }
+    }
+    // A table that is the whole file, of the greatest length: each word is zero but the count, and so the data of each string is.
+    let mut case = Case::new(NAME_FILTER);
+    case.file = vec![0; LARGEST];
+    let count = LARGEST as u32 / 4;
+    put(&mut case.file, 0x38, count);
+    case.lists[0] = vec![count - 1, 14, 0, count - 1, 15];
+    case.lent[0] = 4;
+    cases.push(case);
+    cases
 }
 
 /// The small inputs that are counted through, by their number.
@@ -726,7 +873,7 @@ fn counted(op: u32, index: u64) -> Option<Case> {
             (c.numbers[1], c.numbers[3]) = (d.take(3) as u32, d.take(3) as u32);
             lent(&mut c, &[3 - d.take(3) as u32, 2 - d.take(2) as u32, 3 - d.take(3) as u32, 2 - d.take(2) as u32]);
         }
-        GROUP => {
+        GROUP | TYPES_OF | CLZ_SLICE | NAME_SLICE => {
             c.lists[0] = d.list(&[0u32, 1, 2, 3, u32::MAX], 4);
             c.lists[1] = (5..5 + d.take(4) as u32).collect();
             c.numbers[13] = [0, 1, 2, 3, 4, u32::MAX - 1, u32::MAX][d.take(7)];
@@ -742,7 +889,7 @@ fn counted(op: u32, index: u64) -> Option<Case> {
             c.numbers[1] = n as u32;
             c.lent[0] = 1 + d.take(3) as u32;
         }
-        STRING_BYTES => {
+        STRING_BYTES | STRING_DATA_BYTES => {
             c.file = d.list(&[0x00u8, 0x0f, 0x10, 0x7f, 0x80, 0xff], 6);
             c.numbers[13] = d.take(4) as u32;
         }
@@ -764,20 +911,22 @@ fn counted(op: u32, index: u64) -> Option<Case> {
             lent(&mut c, &[3, 2, 0, 0]);
         }
         METHOD_SEARCH => {
+            // Every length lent for strings and types, with queries that have a match or none, before files of more than a few bytes.
+            lent(&mut c, &[d.take(4) as u32, d.take(4) as u32, 2, 0]);
+            c.query = d.list(b"abz", 1);
+            c.second = d.list(b"abz", 1);
             let area = d.list(b"ab", 3);
-            for _ in 0..2 {
+            // Each string names a type; or the first one none.
+            c.lists[0] = [vec![0, 1, 2, 3], vec![0, 0, 2, 3]][d.take(2)].clone();
+            c.lists[1] = vec![1, 0, 2];
+            for _ in 0..d.take(3) {
                 c.file.extend([d.take(3) as u8, 0, 0, 0, d.take(3) as u8, 0, 0, 0]);
             }
-            (c.numbers[8], c.numbers[9]) = (0, 2);
-            c.numbers[13] = 16;
-            c.numbers[14] = 16 + area.len() as u32;
+            let from = c.file.len() as u32;
+            (c.numbers[8], c.numbers[9]) = (0, from / 8);
+            (c.numbers[13], c.numbers[14]) = (from, from + area.len() as u32);
+            c.keys = (0..area.len() as u64).map(|i| (from as u64 + i) << 32 | i).collect();
             c.file.extend(area);
-            c.query = d.list(b"ab", 1);
-            c.second = d.list(b"ab", 1);
-            c.keys = vec![16 << 32, 17 << 32 | 1, 18 << 32 | 2];
-            c.lists[0] = vec![0, 1, 2, 3];
-            c.lists[1] = vec![1, 0, 2];
-            lent(&mut c, &[3, 3, 2, 0]);
         }
         NAME_FILTER => {
             let text = d.list(&[b'a', b'B', b'b', 0x80], 4);

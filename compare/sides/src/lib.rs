@@ -36,7 +36,7 @@ fn told_otherwise(case: &Case) -> bool {
                 word(at).map(|w| w & 0xffff) == Some(case.types().size) || word(at + 4) == Some(case.strings().size)
             })
         }
-        case::GROUP => case.lists[0].windows(2).nth(case.scalar(0) as usize).is_some_and(misfit),
+        case::GROUP | case::TYPES_OF | case::CLZ_SLICE | case::NAME_SLICE => case.lists[0].windows(2).nth(case.scalar(0) as usize).is_some_and(misfit),
         case::TYPE_SEARCH | case::METHOD_SEARCH => case.lists[0].windows(2).any(misfit),
         _ => false,
     }

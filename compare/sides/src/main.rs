@@ -1,7 +1,7 @@
 //! The comparison: ours against the Rust on the domain, against document 01 off it. Called by ../run, which says how.
 
 use sides::case::*;
-use sides::inputs::Inputs;
+use sides::inputs::{self, Inputs};
 use sides::{expected, ours, shrink, silence, Expected};
 use std::io::Write;
 use std::path::PathBuf;
@@ -13,15 +13,24 @@ use std::time::Instant;
 const REPORTS: u64 = 5;
 
 /// compared: on the domain, with the Rust; found: of the equal ones, with more than an empty answer. Off the domain, held against document
-/// 01: refused, and answered (the Rust panics, or can't be asked).
-const HEAD: &str = "operation      compared    equal    found  refused answered  unequal";
+/// 01: refused, and answered (the Rust panics, or can't be asked). numbers: the refusals that were met, on the domain and off it.
+const HEAD: &str = "operation         compared    equal    found  refused answered  unequal  numbers";
 
 enum Class {
-    /// With something found, or the empty answer.
-    Equal(bool),
-    Refused,
+    /// With something found, or the empty answer; and the refusal's number.
+    Equal(bool, u32),
+    Refused(u32),
     Answered,
     Unequal,
+}
+
+/// Ours, for a case that goes through the program `replay`: its line. None for the others.
+fn replayed(cases: &[Case]) -> Vec<Option<String>> {
+    if cases.first().is_some_and(|c| hands_back_part(c.op)) {
+        ours::replay(cases).into_iter().map(Some).collect()
+    } else {
+        vec![None; cases.len()]
+    }
 }
 
 /// Whether an answer says more than that there is nothing.
@@ -34,25 +43,31 @@ fn found(op: u32, outcome: &Outcome) -> bool {
     }
 }
 
-fn class(case: &Case) -> Class {
+fn class(case: &Case, line: &Option<String>) -> Class {
+    let ours_is = |outcome: &Outcome| match line {
+        Some(line) => *line == outcome.line(case.op),
+        None => ours::answer(case) == *outcome,
+    };
     match expected(case) {
-        Expected::Domain(outcome) if ours::answer(case) == outcome => Class::Equal(found(case.op, &outcome)),
-        Expected::Off(outcome) if ours::answer(case) == outcome => {
-            if outcome.refusal == 0 { Class::Answered } else { Class::Refused }
+        Expected::Domain(outcome) if ours_is(&outcome) => Class::Equal(found(case.op, &outcome), outcome.refusal),
+        Expected::Off(outcome) if ours_is(&outcome) => {
+            if outcome.refusal == 0 { Class::Answered } else { Class::Refused(outcome.refusal) }
         }
         _ => Class::Unequal,
     }
 }
 
 fn report(case: &Case) -> String {
-    let case = shrink::smaller(case, |c| matches!(class(c), Class::Unequal));
+    let line = |c: &Case| replayed(std::slice::from_ref(c)).remove(0);
+    let case = shrink::smaller(case, |c| (!hands_back_part(c.op) || replay_takes(c)) && matches!(class(c, &line(c)), Class::Unequal));
+    let ours = line(&case).unwrap_or_else(|| ours::answer(&case).line(case.op));
     let (what, lines) = match expected(&case) {
         Expected::Domain(o) => ("ours differs from the Rust", vec![("Rust", o)]),
         Expected::Off(o) => ("ours differs from document 01, off the domain", vec![("document 01", o)]),
         Expected::Dispute { theirs: Some(t), document } => ("the Rust differs from document 01", vec![("Rust", t), ("document 01", document)]),
         Expected::Dispute { theirs: None, document } => ("the Rust panics without a fault", vec![("document 01", document)]),
     };
-    let mut text = format!("UNEQUAL: {what}\n  {}\n  ours: {}\n", case.describe(), ours::answer(&case).line(case.op));
+    let mut text = format!("UNEQUAL: {what}\n  {}\n  ours: {ours}\n", case.describe());
     for (who, outcome) in lines {
         text += &format!("  {who}: {}\n", outcome.line(case.op));
     }
@@ -66,6 +81,8 @@ struct Counts {
     refused: AtomicU64,
     answered: AtomicU64,
     unequal: AtomicU64,
+    /// A bit for each refusal that was met.
+    numbers: AtomicU64,
     next: AtomicU64,
 }
 
@@ -90,13 +107,16 @@ fn main() {
     }
     silence();
     eprintln!("{HEAD}");
-    let inputs = Inputs::new(seed, &sample, &folder);
+    let made_from = Inputs::new(seed, &sample, &folder);
     let start = Instant::now();
     let mut lines = Vec::new();
     let mut bad = 0;
     for op in (1..=OPS.len() as u32).filter(|&op| only.is_none_or(|o| o == op)) {
         let counts = Counts::default();
         let out = Mutex::new(());
+        for case in inputs::always(op) {
+            count_in(&case, &None, "of every run", &counts, &out);
+        }
         // As many cases as it takes to compare `count` on the domain, ten times that at most.
         let mut made = 0;
         loop {
@@ -108,7 +128,7 @@ fn main() {
             counts.next.store(from, Relaxed);
             std::thread::scope(|s| {
                 for _ in 0..threads {
-                    s.spawn(|| work(op, to, &inputs, &counts, &out));
+                    s.spawn(|| work(op, to, &made_from, &counts, &out));
                 }
             });
             made = to;
@@ -116,8 +136,10 @@ fn main() {
         let [equal, found, refused, answered, unequal] =
             [&counts.equal, &counts.found, &counts.refused, &counts.answered, &counts.unequal].map(|c| c.load(Relaxed));
         bad += unequal;
+        let numbers = counts.numbers.load(Relaxed);
+        let numbers: String = (1..64).filter(|n| numbers >> n & 1 == 1).map(|n| format!(" {n}")).collect();
         lines.push(format!(
-            "{:14}{:>9}{equal:>9}{found:>9}{refused:>9}{answered:>9}{unequal:>9}",
+            "{:17}{:>9}{equal:>9}{found:>9}{refused:>9}{answered:>9}{unequal:>9} {numbers}",
             OPS[op as usize - 1],
             equal + unequal
         ));
@@ -131,38 +153,46 @@ fn main() {
 }
 
 /// The cases up to `to`, in stretches that the threads take in turn.
-fn work(op: u32, to: u64, inputs: &Inputs, counts: &Counts, out: &Mutex<()>) {
+fn work(op: u32, to: u64, made_from: &Inputs, counts: &Counts, out: &Mutex<()>) {
     const STRETCH: u64 = 1000;
     loop {
         let from = counts.next.fetch_add(STRETCH, Relaxed);
         if from >= to {
             return;
         }
-        for index in from..(from + STRETCH).min(to) {
-            let case = inputs.case(op, index);
-            let counter = match class(&case) {
-                Class::Equal(found) => {
-                    counts.found.fetch_add(found as u64, Relaxed);
-                    &counts.equal
-                }
-                Class::Refused => &counts.refused,
-                Class::Answered => &counts.answered,
-                Class::Unequal => {
-                    if counts.unequal.load(Relaxed) < REPORTS {
-                        let text = report(&case);
-                        let _held = out.lock();
-                        print!("case {index}: {text}");
-                    }
-                    &counts.unequal
-                }
-            };
-            counter.fetch_add(1, Relaxed);
+        let cases: Vec<Case> = (from..(from + STRETCH).min(to)).map(|index| made_from.case(op, index)).collect();
+        for ((case, line), index) in cases.iter().zip(replayed(&cases)).zip(from..) {
+            count_in(case, &line, &index.to_string(), counts, out);
         }
         if from % 20_000 == 0 {
-            eprint!("\r{:14} case {from}", OPS[op as usize - 1]);
+            eprint!("\r{:17} case {from}", OPS[op as usize - 1]);
             let _ = std::io::stderr().flush();
         }
     }
+}
+
+fn count_in(case: &Case, line: &Option<String>, name: &str, counts: &Counts, out: &Mutex<()>) {
+    let counter = match class(case, line) {
+        Class::Equal(found, number) => {
+            counts.found.fetch_add(found as u64, Relaxed);
+            counts.numbers.fetch_or(1 << number, Relaxed);
+            &counts.equal
+        }
+        Class::Refused(number) => {
+            counts.numbers.fetch_or(1 << number, Relaxed);
+            &counts.refused
+        }
+        Class::Answered => &counts.answered,
+        Class::Unequal => {
+            if counts.unequal.load(Relaxed) < REPORTS {
+                let text = report(case);
+                let _held = out.lock();
+                print!("case {name}: {text}");
+            }
+            &counts.unequal
+        }
+    };
+    counter.fetch_add(1, Relaxed);
 }
 
 fn usage() -> ! {

@@ -1,6 +1,8 @@
-//! Ours: the functions of the static library (include/ringlinden.h), and a case's answer by them.
+//! Ours: the functions of the static library (include/ringlinden.h), and a case's answer by them; and the lines of the program `replay` for
+//! the functions that C has no form for.
 
 use crate::case::*;
+use std::process::{Command, Stdio};
 
 macro_rules! interface {
     ($($name:ident($($arg:ident: $ty:ty),* $(,)?);)*) => {
@@ -41,6 +43,39 @@ interface! {
         region_start: N, region_end: N, hits: N);
 }
 
+/// The lines of the program `replay` (`RINGLINDEN_REPLAY`) for cases that it takes. It is run in a folder of its own, on lists of at most
+/// 1,048,576 bytes.
+pub fn replay(cases: &[Case]) -> Vec<String> {
+    const LONGEST: usize = 1 << 20;
+    let program = std::env::var_os("RINGLINDEN_REPLAY").expect("RINGLINDEN_REPLAY");
+    let folder = std::env::temp_dir().join(format!("ringlinden-replay-{}-{:?}", std::process::id(), std::thread::current().id()));
+    std::fs::create_dir_all(&folder).expect("a folder for the cases");
+    let mut lines = Vec::new();
+    let mut rest = cases;
+    while !rest.is_empty() {
+        let (mut list, mut n) = (vec![0; 4], 0);
+        while n < rest.len() {
+            let before = list.len();
+            rest[n].write(&mut list);
+            if list.len() > LONGEST {
+                list.truncate(before);
+                break;
+            }
+            n += 1;
+        }
+        list[..4].copy_from_slice(&(n as u32).to_le_bytes());
+        std::fs::write(folder.join("cases"), &list).expect("cases");
+        let done = Command::new(&program).current_dir(&folder).stdin(Stdio::null()).output().expect("the program `replay`");
+        let text = String::from_utf8(done.stdout).expect("lines");
+        lines.extend(text.lines().map(str::to_owned));
+        // A list that was not read to its end has fewer lines: the cases left have none.
+        rest = &rest[n..];
+        lines.resize(cases.len() - rest.len(), String::new());
+    }
+    let _ = std::fs::remove_dir_all(&folder);
+    lines
+}
+
 /// The finder: starts, triples, slots, shares, offsets, marks, further words and answers are lent, in this order.
 pub fn find(file: &[u8], header: &[u32; 13], kind: u32, wanted: &[u32], lent: &mut [Vec<u32>; 8]) -> (u32, [usize; 3]) {
     let mut out = [usize::MAX; 3];
@@ -57,7 +92,8 @@ pub fn find(file: &[u8], header: &[u32; 13], kind: u32, wanted: &[u32], lent: &m
     (refusal, out)
 }
 
-/// Refusal, start and count.
+/// Refusal, start and count. Inlined, as the next, so that a benchmark's loop makes one call: that of the interface.
+#[inline]
 pub fn string_bytes(file: &[u8], offset: usize) -> (u32, usize, usize) {
     let (mut start, mut count) = (0, 0);
     // SAFETY: pointer and length are those of one slice.
@@ -66,6 +102,7 @@ pub fn string_bytes(file: &[u8], offset: usize) -> (u32, usize, usize) {
 }
 
 /// Start and count.
+#[inline]
 pub fn group(offsets: &[u32], ids: &[u32], key: u32) -> (usize, usize) {
     let (mut start, mut count) = (0, 0);
     // SAFETY: pointers and lengths are those of two slices.

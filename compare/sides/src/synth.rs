@@ -37,7 +37,7 @@ fn some_leb(out: &mut Vec<u8>, x: u64, rng: &mut Rng) {
     }
 }
 
-fn put(file: &mut [u8], at: usize, x: u32) {
+pub fn put(file: &mut [u8], at: usize, x: u32) {
     file[at..at + 4].copy_from_slice(&x.to_le_bytes());
 }
 

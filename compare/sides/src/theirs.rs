@@ -122,6 +122,21 @@ fn run(case: &Case) -> Outcome {
             Ok(text) => Outcome::done(case, &[place(text, &case.file), text.len()], vec![]),
             Err(message) => Outcome::refused(case, number(&message)),
         },
+        STRING_DATA_BYTES => {
+            let part = string_locator::access::string_data_bytes(&case.file, case.offset()).unwrap_or_default();
+            Outcome::done(case, &[part.len()], vec![part.iter().map(|&b| b as u64).collect()])
+        }
+        TYPES_OF | CLZ_SLICE | NAME_SLICE => {
+            let (offsets, ids, key) = (case.lists[0].clone(), case.lists[1].clone(), case.scalar(0));
+            let types = type_locator::access::with_tables(&dex, offsets.clone(), ids.clone());
+            let methods = method_locator::access::with_tables(&dex, offsets, ids);
+            let part = match case.op {
+                TYPES_OF => type_locator::access::types_of(&types, key),
+                CLZ_SLICE => method_locator::access::clz_slice(&methods, key),
+                _ => method_locator::access::name_slice(&methods, key),
+            };
+            Outcome::done(case, &[part.len()], vec![wide(part)])
+        }
         STRING_SEARCH => {
             let found = rising(string_locator(case, &dex).locate(text(&case.query)));
             Outcome::done(case, &[found.len()], vec![found])

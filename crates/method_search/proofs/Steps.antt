@@ -28,7 +28,7 @@ use Rattle.rising.proofs.Sets.{is-in, not-in}
 use Rattle.refusal.proofs.Numbers.{numbered}
 use Rattle.string_search.specs.Search.{Decides, searchFault}
 use Rattle.string_search.proofs.Faults.{no-fault, fault-none}
-use Rattle.method_search.specs.Methods.{Among, methodFault}
+use Rattle.method_search.specs.Methods.{Among, methodFault, settles}
 
 module _ (s : List ℕ) (i : ℕ) where
   pub value16 : i + 2 ≤ length s → (v : ℕ) → v16.Value v ≡ read16 s i → v ≡ le16 s i
@@ -96,6 +96,14 @@ sound len methods c n ks e =
     })
     (λ (h : eqb (searchFault len 0 (max c n) ks) 0 ≡ false). absurd (eqb-false (searchFault len 0 (max c n) ks) 0 h (sym (rw h at e))))
     (case (eqb (searchFault len 0 (max c n) ks) 0))
+
+-- whether a class settles the result
+module _ (class types : ℕ) where
+  pub settles-given : 0 < class → eqb types 0 ≡ settles class types
+  settles-given h = rw (lt-ltb 0 class h)
+
+  pub settles-absent : class ≤ 0 → false ≡ settles class types
+  settles-absent h = rw (le-ltb 0 class h)
 
 -- a query that is not empty has the same faults in string search
 pub same-fault : (len n : ℕ) (ks : List ℕ) → (n ≡ 0 → ⊥) → searchFault len 1 n ks ≡ searchFault len 0 n ks

@@ -2,10 +2,10 @@
 -- Assumes nothing.
 use Prim.Native.Nat.{ℕ, _+_, _≤_, _<_, max}
 use mathlib.Core.Path.{_≡_}
-use mathlib.Core.Bool.{Bool, true, cond, _||_}
+use mathlib.Core.Bool.{Bool, true, cond, _&&_, _||_}
 use mathlib.Core.List.{List}
 use lib.ListN.{length, take}
-use lib.Dec.{eqb}
+use lib.Dec.{eqb, ltb}
 use Rattle.words.specs.Padded.{zeros}
 use Rattle.dalvik.specs.Ids.{item, methodIdSize, method-class-idx, method-name-idx}
 use Rattle.refusal.specs.declared.Answer.{Answer}
@@ -31,8 +31,18 @@ unfoldable pub methodFault : ℕ → Table → ℕ → ℕ → List ℕ → ℕ
 methodFault len methods c n ks =
     cond (eqb (searchFault len 0 (max c n) ks) 0) (cond (passes len methods methodIdSize) 3 0) (searchFault len 0 (max c n) ks)
 
--- the answer and the methods; 4 also where the words lent for the strings of the class, its types or the strings of the name are too
--- few; and these words are zero
+-- a class is given, and the types that its strings name are so many: none, so that no method fits, whatever the name is
+abbrev pub settles : ℕ → ℕ → Bool
+settles class types = ltb 0 class && eqb types 0
+
+-- the fault, with 4 for the words lent to work in, `strings` and `types` of them, class being its length: too few for the strings of
+-- the class, or for its types; and, unless the class settles the result, too few for the strings of the name
+unfoldable pub lentFault : ℕ → ℕ → ℕ → ℕ → List ℕ → List ℕ → List ℕ → ℕ
+lentFault fault class strings types ofClass ofTypes ofName =
+    cond (settles class (length ofTypes)) (orShort (orShort fault strings ofClass) types ofTypes)
+    (orShort (orShort (orShort fault strings ofClass) types ofTypes) strings ofName)
+
+-- the answer and the methods; 4 also for the words lent to work in, which are zero afterwards
 pub record Searched (s : List ℕ) (methods : Table) (ks : List ℕ) (a e : ℕ) (class name offs ids : List ℕ) (r : Answer)
     (strings strings′ types types′ before after : List ℕ) : Type 0 where
   pub of-class : List ℕ
@@ -42,7 +52,7 @@ pub record Searched (s : List ℕ) (methods : Table) (ks : List ℕ) (a e : ℕ)
   pub of-name : List ℕ
   pub name-owners : SetOf (Owns s ks a e name) of-name
   pub found : Found (MethodFound s methods ks a e class name offs ids)
-      (orShort (orShort (orShort (methodFault (length s) methods (length class) (length name) ks) (length strings) of-class) (length types) of-types) (length strings) of-name)
+      (lentFault (methodFault (length s) methods (length class) (length name) ks) (length class) (length strings) (length types) of-class of-types of-name)
       r before after
   pub strings-cleared : strings′ ≡ zeros (length strings)
   pub types-cleared : types′ ≡ zeros (length types)

@@ -18,7 +18,7 @@ ghost use Rattle.words.specs.Rising.{Rising};
 ghost use Rattle.rising.specs.Rising.{In};
 ghost use Rattle.rising.specs.Found.{Found, Matched};
 ghost use Rattle.string_search.specs.Search.{Decides, Owns, faultNumber, searchFault};
-ghost use Rattle.method_search.specs.Methods.{Among, Fits, Fitting, askedCount, Inside, Ready, Stepped, Chosen, Selected, Begun, Searched, methodFault};
+ghost use Rattle.method_search.specs.Methods.{Among, Fits, Fitting, askedCount, Inside, Ready, Stepped, Chosen, Selected, Begun, Searched, methodFault, settles};
 
 // The longer of two lengths.
 fn longer(a: usize, b: usize) -> usize
@@ -192,32 +192,39 @@ fn select(
     file: &[u8],
     methods: Table,
     by_class: bool,
-    types: &mut [u32],
+    of_class: &mut [u32],
     t: usize,
     by_name: bool,
-    strings: &mut [u32],
+    of_name: &mut [u32],
     n: usize,
     out: &mut [u32],
 ) -> Answer
-    requires { ⌜ Chosen (now file) methods (now types) t (now strings) n (now out) ⌝ }
-    ensures { λ r. ⌜ Selected (now (file .entry)) methods «by_class» (now (types .entry)) (now (types .exit)) t «by_name» (now (strings .entry)) (now (strings .exit)) n r (now (out .entry)) (now (out .exit)) ⌝ }
+    requires { ⌜ Chosen (now file) methods (now «of_class») t (now «of_name») n (now out) ⌝ }
+    ensures { λ r. ⌜ Selected (now (file .entry)) methods «by_class» (now («of_class» .entry)) (now («of_class» .exit)) t «by_name» (now («of_name» .entry)) (now («of_name» .exit)) n r (now (out .entry)) (now (out .exit)) ⌝ }
 {
     let found = collect(
         file,
         methods,
         by_class,
-        &types[..t],
+        &of_class[..t],
         by_name,
-        &strings[..n],
+        &of_name[..n],
         out,
     );
-    words::clear(types);
-    words::clear(strings);
+    words::clear(of_class);
+    words::clear(of_name);
     let Insertion::Held(m) = found else {
         words::clear(out);
         return Answer::Refused(Refusal::LentTooShort);
     };
     Answer::Done(m)
+}
+
+// Whether a class of so many bytes whose strings name so many types settles the result: it is given, and no method fits.
+fn settled(class: usize, types: usize) -> bool
+    ensures { λ r. ⌜ r ≡ settles class types ⌝ }
+{
+    if 0 < class { types == 0 } else { false }
 }
 
 // The search itself, where nothing speaks against it and `out` is zero.
@@ -251,6 +258,9 @@ fn search(
     ) else {
         return Answer::Refused(Refusal::LentTooShort);
     };
+    if settled(class.len(), t) {
+        return Answer::Done(0);
+    }
     let Answer::Done(n) = locate_name(file, keys, start, end, name, strings) else {
         words::clear(types);
         return Answer::Refused(Refusal::LentTooShort);

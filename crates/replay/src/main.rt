@@ -1,5 +1,6 @@
-// Replays a list of calls, `cases`, through the functions that C calls, and writes a line for each: the operation, document 01's number,
-// the numbers handed out, and of each lent output the words up to the last that is not 0. README.md has the form of the list.
+// Replays a list of calls, `cases`, through the functions that C calls and those that hand back a part of a slice, and writes a line for
+// each: the operation, document 01's number, the numbers handed out, and of each lent output the words up to the last that is not 0.
+// README.md has the form of the list.
 use replay_list::FILE;
 use replay_list::QUERY;
 use replay_list::SECOND;
@@ -290,6 +291,40 @@ fn code_table(
     );
 }
 
+// ---- the functions that hand back a part of what they are lent, which C doesn't have: the part's length and the part
+
+fn string_data_bytes(case: &[u8]) {
+    let text = string_data::string_data_bytes(file(case), place(case, 13));
+    print_count(14, 0, text.len());
+    replay_list::print_bytes(text);
+}
+
+fn print_part(op: u8, part: &[u32]) {
+    print_count(op, 0, part.len());
+    replay_list::print_one(part);
+}
+
+fn types_of(case: &[u8], str_offsets: &[u32], type_idxs: &[u32]) {
+    let str_idx = replay_list::number(case, 13);
+    print_part(15, type_locator::types_of(str_offsets, type_idxs, str_idx));
+}
+
+fn clz_slice(case: &[u8], clz_offsets: &[u32], clz_mids: &[u32]) {
+    let class_idx = replay_list::number(case, 13);
+    print_part(
+        16,
+        method_locator::clz_slice(clz_offsets, clz_mids, class_idx),
+    );
+}
+
+fn name_slice(case: &[u8], name_offsets: &[u32], name_mids: &[u32]) {
+    let name_idx = replay_list::number(case, 13);
+    print_part(
+        17,
+        method_locator::name_slice(name_offsets, name_mids, name_idx),
+    );
+}
+
 // ---- outputs that hold stale words are lent to the operation of a case
 
 fn lend_keys(case: &[u8]) {
@@ -428,6 +463,10 @@ fn call(case: &[u8], keys: &[u64], w1: &[u32], w2: &[u32], w3: &[u32], w4: &[u32
         8 => lend_three(case, keys, w1, w2),
         2 => lend_four(op, case),
         10 => lend_four(op, case),
+        14 => string_data_bytes(case),
+        15 => types_of(case, w1, w2),
+        16 => clz_slice(case, w1, w2),
+        17 => name_slice(case, w1, w2),
         _ => lend_two(op, case, keys, w1, w2, w3, w4),
     }
 }
@@ -476,7 +515,7 @@ fn run(case: &[u8]) {
 
 // Whether there is such an operation.
 fn known(op: u32) -> bool {
-    if op < 1 { false } else { op <= 13 }
+    if op < 1 { false } else { op <= 17 }
 }
 
 // Whether there is such an operation, and room for its outputs: then it is called.

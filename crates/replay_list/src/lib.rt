@@ -313,6 +313,21 @@ pub fn end_line() {
     print(b"\n");
 }
 
+fn byte_at(text: &[u8], i: usize) -> u8 {
+    if i < text.len() { text[i] } else { 0 }
+}
+
+// Bytes that a call hands back, as numbers, and the end of the line.
+pub fn print_bytes(text: &[u8]) {
+    print(b" |");
+    let mut i = 0;
+    while i < text.len() {
+        print_number(byte_at(text, i) as u64);
+        i += 1;
+    }
+    end_line();
+}
+
 // The lent outputs of a call, and the end of the line.
 pub fn print_keys(o: &[u64]) {
     print_first_keys(o, used_keys(o));

@@ -1,10 +1,12 @@
 //! The benchmarks: each operation, ours and the Rust in one process on the same input. Called by ../../../bench, which says how.
-//!   bench time FILE            medians of interleaved runs, as a table
-//!   bench list FILE            the items' names
-//!   bench once FILE            each item, ours and then the Rust, once inside the function `measured`: for callgrind
+//!   bench time FILE [PART..]   medians of interleaved runs, as a table
+//!   bench list FILE [PART..]   the items' names
+//!   bench once FILE [PART..]   each item, ours and then the Rust, once inside the function `measured`: for callgrind
 //!   bench uses FILE KIND INDEX the uses of an index, as a whole process of ours
+//! With parts, only the items whose name has one of them.
 
 use sides::case::*;
+use sides::inputs::file_of_names;
 use sides::ours::{self, Buffers};
 use sides::synth::Dex;
 use sides::theirs;
@@ -33,7 +35,7 @@ fn leak<T>(x: T) -> &'static T {
 /// A successful call of ours that lends what it needs, found by lending plenty first.
 fn fitted(mut case: Case, number: usize) -> (Side, usize, Buffers) {
     let (_, outs) = shape(case.op);
-    case.lent[..outs].fill(1 << 18);
+    case.lent[..outs].fill(1 << 20);
     let answer = ours::answer(&case);
     assert_eq!(answer.refusal, 0, "{}", OPS[case.op as usize - 1]);
     for i in 0..outs {
@@ -123,6 +125,13 @@ fn items(file: Vec<u8>) -> Vec<Item> {
         let (ours, lent, _) = fitted(search(STRING_SEARCH, query.as_bytes(), b""), 0);
         add(&format!("string search, `{query}`"), ours, lent, Box::new(move || strings.locate(black_box(query)).len()));
     }
+    for n in [10_000, 100_000, 1_000_000] {
+        let case = falling(n);
+        let dex: &'static DEX = leak(theirs::dex_of(&case));
+        let strings = leak(theirs::string_locator(&case, dex));
+        let (ours, lent, _) = fitted(case, 0);
+        add(&format!("string search, data in falling order, {n} strings"), ours, lent, Box::new(move || strings.locate(black_box("a")).len()));
+    }
     let (ours, lent, _) = fitted(search(TYPE_SEARCH, b"Exception", b""), 0);
     add("type search, `Exception`", ours, lent, Box::new(move || type_locator.locate(black_box("Exception"), strings).len()));
     let (ours, lent, _) = fitted(search(METHOD_SEARCH, b"Exception", b"get"), 0);
@@ -139,6 +148,18 @@ fn items(file: Vec<u8>) -> Vec<Item> {
     add("name filter, `get`, every method's name", ours, lent, Box::new(move || {
         string_locator::access::locate_name_indices(buf, black_box(&names), "get").unwrap().len()
     }));
+
+    // A small file and large ones, made up: ours takes tables by the number of strings.
+    for count in [300, 100_000, 300_000] {
+        let mut case = Case::new(NAME_FILTER);
+        case.file = file_of_names(count);
+        (case.query, case.lists[0]) = (b"q".to_vec(), (0..count).collect());
+        let (file, given) = (leak(case.file.clone()), case.lists[0].clone());
+        let (ours, lent, _) = fitted(case, 0);
+        add(&format!("name filter without a hit, all of {count} strings"), ours, lent, Box::new(move || {
+            string_locator::access::locate_name_indices(file, black_box(&given), "q").unwrap().len()
+        }));
+    }
 
     // ---- code
     let (ours, lent, table) = fitted(d.case(CODE_TABLE), 2);
@@ -183,6 +204,20 @@ fn items(file: Vec<u8>) -> Vec<Item> {
         let wanted = &indices(3)[..n];
         let (ours, lent, _) = fitted(scan(&long, 0, 3 << 20, 3, wanted), 0);
         add(&format!("scan of 3 MiB, field, {n} wanted"), ours, lent, rust_scan(long_dex, 0, 3 << 20, 3, wanted));
+    }
+    // The first 32 KiB of it.
+    let wanted = &indices(1)[..1];
+    let end = from + 32768.min(to - from);
+    let (ours, lent, _) = fitted(scan(buf, from, end, 1, wanted), 0);
+    add("scan of 32 KiB, string, 1 wanted", ours, lent, rust_scan(dex, from, end, 1, wanted));
+    // const-string/jumbo, one for each of so many strings, all wanted.
+    for n in [10_000, 80_000] {
+        let mut case = Case::new(SCAN);
+        case.file = (0..n).flat_map(|i: u32| [[0x1b, 0].to_vec(), i.to_le_bytes().to_vec()].concat()).collect();
+        let (file, end, wanted) = (case.file.clone(), 6 * n, (0..n).collect::<Vec<u32>>());
+        let jumbo_dex: &'static DEX = leak(theirs::dex_of(&case));
+        let (ours, lent, _) = fitted(scan(&file, 0, end, 1, &wanted), 0);
+        add(&format!("scan, string, {n} wanted and used"), ours, lent, rust_scan(jumbo_dex, 0, end, 1, &wanted));
     }
     for kind in [1, 4] {
         let wanted = &indices(kind)[..16];
@@ -240,6 +275,18 @@ fn items(file: Vec<u8>) -> Vec<Item> {
         );
     }
     items
+}
+
+/// A search that finds each of n strings, whose data lie in falling order of their indices: behind the string ids, three bytes each.
+fn falling(n: u32) -> Case {
+    let mut case = Case::new(STRING_SEARCH);
+    let data = |index: u32| 4 * n + 3 * (n - 1 - index);
+    case.file = (0..n).flat_map(|index| data(index).to_le_bytes()).chain((0..n).flat_map(|_| [1, b'a', 0])).collect();
+    case.numbers[1] = n;
+    (case.numbers[13], case.numbers[14]) = (4 * n, 7 * n);
+    case.keys = (0..n).rev().map(|index| (data(index) as u64) << 32 | index as u64).collect();
+    case.query = b"a".to_vec();
+    case
 }
 
 fn generous(mut case: Case) -> Case {
@@ -319,21 +366,25 @@ fn uses(file: &str, kind: &str, index: u32) {
 fn main() {
     let args: Vec<String> = std::env::args().skip(1).collect();
     let args: Vec<&str> = args.iter().map(String::as_str).collect();
-    let load = |file: &str| items(std::fs::read(file).expect(file));
+    let load = |file: &str, parts: &[&str]| {
+        let mut items = items(std::fs::read(file).expect(file));
+        items.retain(|item| parts.is_empty() || parts.iter().any(|p| item.name.contains(p)));
+        items
+    };
     match args[..] {
-        ["time", file] => {
+        ["time", file, ref parts @ ..] => {
             println!("| operation | ours | the Rust | ours / Rust | words lent, cleared by ours |");
             println!("|---|---:|---:|---:|---:|");
-            for mut item in load(file) {
+            for mut item in load(file, parts) {
                 let (a, b) = ((item.ours)(), (item.rust)());
                 assert_eq!(a, b, "{}", item.name);
                 let (ours, rust) = time(&mut item);
                 println!("| {} | {ours:.1} | {rust:.1} | {:.2} | {} |", item.name, ours / rust, item.lent);
             }
         }
-        ["list", file] => load(file).iter().for_each(|item| println!("{}", item.name)),
-        ["once", file] => {
-            for mut item in load(file) {
+        ["list", file, ref parts @ ..] => load(file, parts).iter().for_each(|item| println!("{}", item.name)),
+        ["once", file, ref parts @ ..] => {
+            for mut item in load(file, parts) {
                 assert_eq!(measured(&mut item.ours), measured(&mut item.rust));
             }
         }

@@ -15,31 +15,20 @@ const DOMAIN: usize = 240;
 const EACH_REFUSAL: usize = 12;
 const BYTES: usize = 68_000;
 
-/// What the program is lent for.
-fn fits(case: &Case) -> bool {
-    case.file.len() <= 4096
-        && case.query.len() <= 512
-        && case.second.len() <= 512
-        && case.keys.len() <= 512
-        && case.lists.iter().all(|l| l.len() <= 512)
-        && case.lent.iter().all(|&n| n <= 1024)
-        && case.high == 0
-}
-
 fn main() {
     let args: Vec<String> = std::env::args().collect();
     let [_, folder, sample] = &args[..] else { panic!("usage: replay FOLDER SAMPLE") };
     silence();
     let inputs = Inputs::new(SEED, Path::new(sample), Path::new("no larger files"));
     let (mut cases, mut lines, mut count) = (Vec::new(), String::new(), 0u32);
-    for op in 1..=13 {
+    for op in TYPE_GROUPS..=NAME_SLICE {
         let (mut domain, mut answered, mut refusals) = (0, 0, [0; 16]);
         let mut seen: HashSet<String> = HashSet::new();
         let mut bytes = 0;
         for index in 0..200_000u64 {
             // Random cases and, one in ten, counted ones; small files mostly.
             let case = inputs.case(op, if index % 10 == 0 { 2 * index } else { 2 * index + 1 });
-            if !fits(&case) || case.file.len() > 260 && index % 24 != 1 || case.file.len() > 1000 && index % 96 != 1 {
+            if !replay_takes(&case) || case.file.len() > 260 && index % 24 != 1 || case.file.len() > 1000 && index % 96 != 1 {
                 continue;
             }
             let (outcome, counter, most) = match expected(&case) {
@@ -68,7 +57,7 @@ fn main() {
             lines.push('\n');
         }
         let by: Vec<String> = (0..16).filter(|&n| refusals[n] > 0).map(|n| format!("{n}: {}", refusals[n])).collect();
-        println!("{:14} {domain} answers, {answered} by document 01 alone, refusals {}; {bytes} bytes", OPS[op as usize - 1], by.join(", "));
+        println!("{:17} {domain} answers, {answered} by document 01 alone, refusals {}; {bytes} bytes", OPS[op as usize - 1], by.join(", "));
     }
     let folder = Path::new(folder);
     fs::create_dir_all(folder.join("data")).unwrap();

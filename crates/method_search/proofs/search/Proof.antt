@@ -1,4 +1,5 @@
-use Rattle.method_search.proofs.Exits.{exit-class, exit-name, chosen, exit-select}
+use Rattle.method_search.proofs.Exits.{exit-class, exit-settled, exit-name, chosen, exit-select}
+use mathlib.Core.Path.{sym, _∙_}
 use native.Mathlib.Omega.{arith}
 use borrow.Author.Needs.{needs}
 use Rattle.method_search.proofs.search.Statement.{statement}
@@ -25,6 +26,21 @@ returns c =
     let p = c .before .before .before .before .before .before .before .before .before .before .before .before .before .before .before .before .before .before .pre in
     exit-class (a .file .now) (a .methods) (a .keys .now) (a .start) (a .end) (a .class .now) (a .name .now) (a .str-offsets .now) (a .type-idxs .now) (p .none) (c .before .before .before .before .before .before .locate .ensures) (c .enum-told .given .0 .0) (c .enum-told .given .1) _ (p .clear)
 
+settled-requires : tie.Need-settled-requires
+settled-requires c κs = search needs
+
+same-length-3 : tie.Need-same-length-3
+same-length-3 c = search needs
+
+same-length-4 : tie.Need-same-length-4
+same-length-4 c = search needs
+
+returns-2 : tie.Need-returns-2
+returns-2 c =
+    let a = c .before .before .before .before .before .before .before .before .before .before .before .before .before .before .before .before .before .before .before .before .before .args in
+    let p = c .before .before .before .before .before .before .before .before .before .before .before .before .before .before .before .before .before .before .before .before .before .pre in
+    exit-settled (a .file .now) (a .methods) (a .keys .now) (a .start) (a .end) (a .class .now) (a .name .now) (a .str-offsets .now) (a .type-idxs .now) (p .none) (c .before .before .before .before .before .before .before .before .before .locate .ensures) _ (c .before .before .before .t .given .1) (sym (c .before .settled .ensures) ∙ c .if1 .taken) _ (p .clear)
+
 locate-name-requires : tie.Need-locate-name-requires
 locate-name-requires c κs = search needs
 
@@ -37,38 +53,38 @@ enum-told-2 c = search needs
 clear-requires : tie.Need-clear-requires
 clear-requires c κs = search needs
 
-same-length-3 : tie.Need-same-length-3
-same-length-3 c = search needs
-
-same-length-4 : tie.Need-same-length-4
-same-length-4 c = search needs
-
-returns-2 : tie.Need-returns-2
-returns-2 c =
-    let a = c .before .before .before .before .before .before .before .before .before .before .before .before .before .before .before .before .before .before .before .before .before .before .before .before .before .before .before .before .before .args in
-    let p = c .before .before .before .before .before .before .before .before .before .before .before .before .before .before .before .before .before .before .before .before .before .before .before .before .before .before .before .before .before .pre in
-    exit-name (a .file .now) (a .methods) (a .keys .now) (a .start) (a .end) (a .class .now) (a .name .now) (a .str-offsets .now) (a .type-idxs .now) (p .none) (c .before .before .before .before .before .before .before .before .before .before .before .before .before .before .before .before .before .locate .ensures) _ (c .before .before .before .before .before .before .before .before .before .before .before .t .given .1) (c .before .before .before .before .before .before .before .before .locate-name .ensures) (c .before .before .before .before .enum-told2 .given .0 .0) (c .before .before .before .before .enum-told2 .given .1) _ (c .before .before .clear .ensures) (omega (arith, c .before .before .before .before .before .before .before .before .before .before .before .before .before .before .before .before .before .locate .kept)) _ (p .clear)
-
-select-requires : tie.Need-select-requires
-select-requires c κs =
-    let a = c .before .before .before .before .before .before .before .before .before .before .before .before .before .before .before .before .before .before .before .before .before .before .before .before .before .before .before .before .before .args in
-    let p = c .before .before .before .before .before .before .before .before .before .before .before .before .before .before .before .before .before .before .before .before .before .before .before .before .before .before .before .before .before .pre in
-    chosen (a .file .now) (a .methods) (a .keys .now) (a .start) (a .end) (a .class .now) (a .name .now) (a .str-offsets .now) (a .type-idxs .now) (p .none) (c .before .before .before .before .before .before .before .before .before .before .before .before .before .before .before .before .before .locate .ensures) _ (c .before .before .before .before .before .before .before .before .before .before .before .t .given .1) (c .before .before .before .before .before .before .before .before .locate-name .ensures) _ (c .before .before .before .before .n .given .1) _ (p .clear)
-
 same-length-5 : tie.Need-same-length-5
 same-length-5 c = search needs
 
 same-length-6 : tie.Need-same-length-6
 same-length-6 c = search needs
 
+returns-3 : tie.Need-returns-3
+returns-3 c =
+    let a = c .before .before .before .before .before .before .before .before .before .before .before .before .before .before .before .before .before .before .before .before .before .before .before .before .before .before .before .before .before .before .before .args in
+    let p = c .before .before .before .before .before .before .before .before .before .before .before .before .before .before .before .before .before .before .before .before .before .before .before .before .before .before .before .before .before .before .before .pre in
+    exit-name (a .file .now) (a .methods) (a .keys .now) (a .start) (a .end) (a .class .now) (a .name .now) (a .str-offsets .now) (a .type-idxs .now) (p .none) (c .before .before .before .before .before .before .before .before .before .before .before .before .before .before .before .before .before .before .before .locate .ensures) _ (c .before .before .before .before .before .before .before .before .before .before .before .before .before .t .given .1) (sym (c .before .before .before .before .before .before .before .before .before .before .before .settled .ensures) ∙ c .before .before .before .before .before .before .before .before .before .before .if1 .left) (c .before .before .before .before .before .before .before .before .locate-name .ensures) (c .before .before .before .before .enum-told2 .given .0 .0) (c .before .before .before .before .enum-told2 .given .1) _ (c .before .before .clear .ensures) (omega (arith, c .before .before .before .before .before .before .before .before .before .before .before .before .before .before .before .before .before .before .before .locate .kept)) _ (p .clear)
+
+select-requires : tie.Need-select-requires
+select-requires c κs =
+    let a = c .before .before .before .before .before .before .before .before .before .before .before .before .before .before .before .before .before .before .before .before .before .before .before .before .before .before .before .before .before .before .before .args in
+    let p = c .before .before .before .before .before .before .before .before .before .before .before .before .before .before .before .before .before .before .before .before .before .before .before .before .before .before .before .before .before .before .before .pre in
+    chosen (a .file .now) (a .methods) (a .keys .now) (a .start) (a .end) (a .class .now) (a .name .now) (a .str-offsets .now) (a .type-idxs .now) (p .none) (c .before .before .before .before .before .before .before .before .before .before .before .before .before .before .before .before .before .before .before .locate .ensures) _ (c .before .before .before .before .before .before .before .before .before .before .before .before .before .t .given .1) (sym (c .before .before .before .before .before .before .before .before .before .before .before .settled .ensures) ∙ c .before .before .before .before .before .before .before .before .before .before .if1 .left) (c .before .before .before .before .before .before .before .before .locate-name .ensures) _ (c .before .before .before .before .n .given .1) _ (p .clear)
+
 same-length-7 : tie.Need-same-length-7
 same-length-7 c = search needs
 
-returns-3 : tie.Need-returns-3
-returns-3 c =
-    let a = c .before .before .before .before .before .before .before .before .before .before .before .before .before .before .before .before .before .before .before .before .before .before .before .before .before .before .before .before .before .before .before .before .before .before .before .before .args in
-    let p = c .before .before .before .before .before .before .before .before .before .before .before .before .before .before .before .before .before .before .before .before .before .before .before .before .before .before .before .before .before .before .before .before .before .before .before .before .pre in
-    exit-select (a .file .now) (a .methods) (a .keys .now) (a .start) (a .end) (a .class .now) (a .name .now) (a .str-offsets .now) (a .type-idxs .now) (p .none) (c .before .before .before .before .before .before .before .before .before .before .before .before .before .before .before .before .before .before .before .before .before .before .before .before .locate .ensures) _ (c .before .before .before .before .before .before .before .before .before .before .before .before .before .before .before .before .before .before .t .given .1) (c .before .before .before .before .before .before .before .before .before .before .before .before .before .before .before .locate-name .ensures) _ (c .before .before .before .before .before .before .before .before .before .before .before .n .given .1) (c .before .before .before .before .before .before .select .ensures) (omega (arith, c .before .before .before .before .before .before .before .before .before .before .before .before .before .before .before .before .before .before .before .before .before .before .before .before .locate .kept)) (omega (arith, c .before .before .before .before .before .before .before .before .before .before .before .before .before .before .before .locate-name .kept))
+same-length-8 : tie.Need-same-length-8
+same-length-8 c = search needs
+
+same-length-9 : tie.Need-same-length-9
+same-length-9 c = search needs
+
+returns-4 : tie.Need-returns-4
+returns-4 c =
+    let a = c .before .before .before .before .before .before .before .before .before .before .before .before .before .before .before .before .before .before .before .before .before .before .before .before .before .before .before .before .before .before .before .before .before .before .before .before .before .before .args in
+    let p = c .before .before .before .before .before .before .before .before .before .before .before .before .before .before .before .before .before .before .before .before .before .before .before .before .before .before .before .before .before .before .before .before .before .before .before .before .before .before .pre in
+    exit-select (a .file .now) (a .methods) (a .keys .now) (a .start) (a .end) (a .class .now) (a .name .now) (a .str-offsets .now) (a .type-idxs .now) (p .none) (c .before .before .before .before .before .before .before .before .before .before .before .before .before .before .before .before .before .before .before .before .before .before .before .before .before .before .locate .ensures) _ (c .before .before .before .before .before .before .before .before .before .before .before .before .before .before .before .before .before .before .before .before .t .given .1) (sym (c .before .before .before .before .before .before .before .before .before .before .before .before .before .before .before .before .before .before .settled .ensures) ∙ c .before .before .before .before .before .before .before .before .before .before .before .before .before .before .before .before .before .if1 .left) (c .before .before .before .before .before .before .before .before .before .before .before .before .before .before .before .locate-name .ensures) _ (c .before .before .before .before .before .before .before .before .before .before .before .n .given .1) (c .before .before .before .before .before .before .select .ensures) (omega (arith, c .before .before .before .before .before .before .before .before .before .before .before .before .before .before .before .before .before .before .before .before .before .before .before .before .before .before .locate .kept)) (omega (arith, c .before .before .before .before .before .before .before .before .before .before .before .before .before .before .before .locate-name .kept))
 
 pub search-spec : {M : Type 1} → statement M
 search-spec =
@@ -80,15 +96,19 @@ search-spec =
     same-length
     same-length-2
     returns
+    settled-requires
+    same-length-3
+    same-length-4
+    returns-2
     locate-name-requires
     enum-known-n
     enum-told-2
     clear-requires
-    same-length-3
-    same-length-4
-    returns-2
-    select-requires
     same-length-5
     same-length-6
+    returns-3
+    select-requires
     same-length-7
-    returns-3)
+    same-length-8
+    same-length-9
+    returns-4)
