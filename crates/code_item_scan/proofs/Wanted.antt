@@ -1,23 +1,23 @@
 -- The tables tell which indices are wanted, since each word of the list that was passed has left its trace in them.
 --     isIn       isIn-take, isIn-last, isIn-not-last
 --     TableOf    table-marked, table-passed, bit-zero, bit-one
---     PlacesOf   places-set
+--     WantedOf   wanted-none, wanted-in, wanted-out
 -- Assumes nothing.
 use mathlib.Core.Path.{_≡_, refl, ap, sym, _∙_}
-use mathlib.Core.Bool.{Bool, true, false, _||_}
+use mathlib.Core.Bool.{Bool, true, false, not, _||_}
 use mathlib.Core.Logic.{⊎-elim}
 use mathlib.Core.List.{List, [], _∷_, _++_}
-use Prim.Native.Nat.{ℕ, _+_, _-_, _%_, _≤_, _<_}
+use Prim.Native.Nat.{ℕ, _+_, _-_, _*_, _≤_, _<_}
 use native.Mathlib.Numerals.{add-one}
 use native.Mathlib.Omega.{arith}
-use lib.Dec.{eqb}
-use lib.ListN.{length, getD, set, take, replicate}
+use lib.Dec.{ltb, eqb}
+use lib.ListN.{length, getD, set, take}
 use lib.Seq.{take-suc, getD-set-same, getD-set-other}
-use borrow.Author.Tests.{eq-eqb, ne-eqb, eqb-true, eqb-false}
+use borrow.Author.Tests.{eq-eqb, ne-eqb, eqb-true, eqb-false, ltb-true, ltb-false}
 use Rattle.words.proofs.Shared.{case}
-use Rattle.words.proofs.Padded.{padded-none, padded-at}
+use Rattle.index_set.specs.Bits.{isHeld, Adds}
 use Rattle.code_item_scan.specs.Scan.{isIn}
-use Rattle.code_item_scan.specs.Steps.{bit}
+use Rattle.code_item_scan.specs.Steps.{bit, NoneHeld, WantedOf}
 
 or-assoc : (a b c : Bool) → (a || b) || c ≡ a || (b || c)
 or-assoc true b c = refl
@@ -83,30 +83,37 @@ pub bit-one : (b : Bool) → (bit b ≡ 0 → ⊥) → b ≡ true
 bit-one true n = refl
 bit-one false n = absurd (n refl)
 
--- the places of the low halves: none before the first word
-pub places-none : (y : ℕ) → _≡_ {A = ℕ} (getD (replicate 65536 0) y 0) 0
-places-none y = ap (λ (l : List ℕ). getD l y 0) (sym (padded-none 65536)) ∙ padded-at 65536 [] y
+-- the set of the wanted words: none before the first word
+pub wanted-none : (l : List ℕ) {bits : List ℕ} → NoneHeld bits → WantedOf (take 0 l) bits false
+wanted-none l e = record { at = λ x h. e x; none-other = λ o x h. refl }
 
-pub places-zero : (l : List ℕ) (y p : ℕ) → p ≡ 0 → isIn y (take p l) ≡ isIn y (take 0 l)
-places-zero l y p e = ap (λ (k : ℕ). isIn y (take k l)) e
+not-true : (b : Bool) → not b ≡ true → b ≡ false
+not-true true e = sym e
+not-true false e = refl
 
-module _ (l t : List ℕ) (i : ℕ) (h : i < length l) (n : length t ≡ 65536) where
-  abbrev low : ℕ
-  low = getD l i 0 % 65536
+not-false : (b : Bool) → not b ≡ false → b ≡ true
+not-false true e = refl
+not-false false e = sym e
 
-  pub places-inside : ((y : ℕ) → getD t y 0 ≤ i) → (y : ℕ) → getD (set t low (i + 1)) y 0 ≤ i + 1
-  places-inside e y =
-      ⊎-elim
-      (λ q. rw (eqb-true y low q) (rw (getD-set-same t low (i + 1) 0 (omega arith)) (omega arith)))
-      (λ q. rw (getD-set-other t low y (i + 1) 0 (eqb-false y low q)) (omega (arith, e y)))
-      (case (eqb y low))
+-- one word more
+module _ (l : List ℕ) (i : ℕ) (h : i < length l) {b b′ : List ℕ} {o r : Bool} (w : WantedOf (take i l) b o) (d : Adds (getD l i 0) b b′ r) where
+  abbrev word : ℕ
+  word = getD l i 0
 
-  pub places-set : ((y : ℕ) → isIn y (take (getD t (y % 65536) 0) l) ≡ isIn y (take i l))
-      → (y : ℕ) → isIn y (take (getD (set t low (i + 1)) (y % 65536) 0) l) ≡ isIn y (take (i + 1) l)
-  places-set e y =
-      ⊎-elim
-      (λ q. rw (eqb-true (y % 65536) low q) (rw (getD-set-same t low (i + 1) 0 (omega arith))))
-      (λ q.
-      rw (getD-set-other t low (y % 65536) (i + 1) 0 (eqb-false (y % 65536) low q))
-      (e y ∙ sym (isIn-no-more y l i h (λ z. eqb-false (y % 65536) low q (ap (λ (k : ℕ). k % 65536) (sym z))))))
-      (case (eqb (y % 65536) low))
+  joins : r ≡ true → word < 64 * length b
+  joins e = let t : ltb word (64 * length b) ≡ true = sym (d .inside) ∙ e in ltb-true word (64 * length b) t
+
+  stays-out : r ≡ false → 64 * length b ≤ word
+  stays-out e = let t : ltb word (64 * length b) ≡ false = sym (d .inside) ∙ e in ltb-false word (64 * length b) t
+
+  pub wanted-in : not r ≡ false → WantedOf (take (i + 1) l) b′ o
+  wanted-in n = let e : r ≡ true = not-false r n in record {
+    at = λ x k. d .held x ∙ rw (e, w .at x (omega (arith, d .long))) (sym (isIn-take x l i h));
+    none-other = λ f x k. isIn-no-more x l i h (λ z. omega (arith, joins e, d .long)) ∙ w .none-other f x (omega (arith, d .long));
+  }
+
+  pub wanted-out : not r ≡ true → WantedOf (take (i + 1) l) b′ true
+  wanted-out n = let e : r ≡ false = not-true r n in record {
+    at = λ x k. d .held x ∙ rw (e, w .at x (omega (arith, d .long))) (or-false (isIn x (take i l)) ∙ sym (isIn-no-more x l i h (λ z. omega (arith, stays-out e, d .long))));
+    none-other = λ f x k. absurd (let z : _≡_ {A = ℕ} 0 1 = cc in omega arith);
+  }

@@ -31,35 +31,35 @@ use Rattle.code_item_scan.specs.Answers.{Gives}
 module _ (s wanted : List ℕ) (from to kind : ℕ) {r : Admission} where
   module _ (known : Kind) (e : r ≡ Scan known) where
     pub admitted-region : Admitted (length s) from to kind r → Region s from to
-    admitted-region (large l f) = let z : _≡_ {A = ℕ} 0 1 = cc in absurd (omega arith)
-    admitted-region (unknown l k f) = let z : _≡_ {A = ℕ} 0 1 = cc in absurd (omega arith)
-    admitted-region (backward l k i h f) = let z : _≡_ {A = ℕ} 0 1 = cc in absurd (omega arith)
-    admitted-region (past-end l k i g h f) = let z : _≡_ {A = ℕ} 0 1 = cc in absurd (omega arith)
-    admitted-region (scan l k i g h f) = record { forward = g; inside = h; small = ltb-false largestFile (length s) l }
+    admitted-region (large f l) = let z : _≡_ {A = ℕ} 0 1 = cc in absurd (omega arith)
+    admitted-region (unknown f l k) = let z : _≡_ {A = ℕ} 0 1 = cc in absurd (omega arith)
+    admitted-region (backward k f l i h) = let z : _≡_ {A = ℕ} 0 1 = cc in absurd (omega arith)
+    admitted-region (past-end k f l i g h) = let z : _≡_ {A = ℕ} 0 1 = cc in absurd (omega arith)
+    admitted-region (scan k f l i g h) = record { forward = g; inside = h; small = ltb-false largestFile (length s) l }
 
     pub admitted-scan : Admitted (length s) from to kind r → (roomOffs roomMarks : ℕ)
         → S.scanOut s kind wanted from to roomOffs roomMarks ≡ S.scanned roomOffs roomMarks (S.hitsOf s (meant known) wanted from to)
     unfolding S.scanOut
-    admitted-scan (large l f) ro rm = let z : _≡_ {A = ℕ} 0 1 = cc in absurd (omega arith)
-    admitted-scan (unknown l k f) ro rm = let z : _≡_ {A = ℕ} 0 1 = cc in absurd (omega arith)
-    admitted-scan (backward l k i h f) ro rm = let z : _≡_ {A = ℕ} 0 1 = cc in absurd (omega arith)
-    admitted-scan (past-end l k i g h f) ro rm = let z : _≡_ {A = ℕ} 0 1 = cc in absurd (omega arith)
-    admitted-scan (scan l k i g h f) ro rm =
+    admitted-scan (large f l) ro rm = let z : _≡_ {A = ℕ} 0 1 = cc in absurd (omega arith)
+    admitted-scan (unknown f l k) ro rm = let z : _≡_ {A = ℕ} 0 1 = cc in absurd (omega arith)
+    admitted-scan (backward k f l i h) ro rm = let z : _≡_ {A = ℕ} 0 1 = cc in absurd (omega arith)
+    admitted-scan (past-end k f l i g h) ro rm = let z : _≡_ {A = ℕ} 0 1 = cc in absurd (omega arith)
+    admitted-scan (scan k f l i g h) ro rm =
         let d : k ≡ known = cc in
         simp (l, i, le-leb from to g, le-leb to (length s) h) (ap (λ (j : Kind). S.scanned ro rm (S.hitsOf s (meant j) wanted from to)) d)
 
   pub admitted-refusal : Admitted (length s) from to kind r → (why : Refusal) → r ≡ Refuse why → (roomOffs roomMarks : ℕ)
       → S.scanOut s kind wanted from to roomOffs roomMarks ≡ S.noScan (refusalNumber why)
   unfolding S.scanOut
-  admitted-refusal (large l f) why e ro rm = let d : FileTooLarge ≡ why = cc in simp l (ap (λ (x : Refusal). S.noScan (refusalNumber x)) d)
-  admitted-refusal (unknown l k f) why e ro rm = let d : UnknownKind ≡ why = cc in simp (l, k) (ap (λ (x : Refusal). S.noScan (refusalNumber x)) d)
-  admitted-refusal (backward l k i h f) why e ro rm =
+  admitted-refusal (large f l) why e ro rm = let d : FileTooLarge ≡ why = cc in simp l (ap (λ (x : Refusal). S.noScan (refusalNumber x)) d)
+  admitted-refusal (unknown f l k) why e ro rm = let d : UnknownKind ≡ why = cc in simp (l, k) (ap (λ (x : Refusal). S.noScan (refusalNumber x)) d)
+  admitted-refusal (backward k f l i h) why e ro rm =
       let d : RegionOutside ≡ why = cc in
       simp (l, i, lt-leb from to h) (ap (λ (x : Refusal). S.noScan (refusalNumber x)) d)
-  admitted-refusal (past-end l k i g h f) why e ro rm =
+  admitted-refusal (past-end k f l i g h) why e ro rm =
       let d : RegionOutside ≡ why = cc in
       simp (l, i, le-leb from to g, lt-leb to (length s) h) (ap (λ (x : Refusal). S.noScan (refusalNumber x)) d)
-  admitted-refusal (scan l k i g h f) why e ro rm = let z : _≡_ {A = ℕ} 0 1 = cc in absurd (omega arith)
+  admitted-refusal (scan k f l i g h) why e ro rm = let z : _≡_ {A = ℕ} 0 1 = cc in absurd (omega arith)
 
 -- ---- the answer
 

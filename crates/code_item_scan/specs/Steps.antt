@@ -1,11 +1,11 @@
 -- What the inner steps of the scan promise each other; document 01's scan itself is Scan.antt.
 -- Assumes nothing.
-use Prim.Native.Nat.{ℕ, _+_, _-_, _%_, _<_, _≤_}
+use Prim.Native.Nat.{ℕ, _+_, _-_, _*_, _%_, _<_, _≤_}
 use mathlib.Core.Path.{_≡_}
 use mathlib.Core.Bool.{Bool, true, false, cond, _&&_}
 use mathlib.Core.Option.{Option, none, some}
 use mathlib.Core.List.{List}
-use lib.ListN.{length, getD, take, set}
+use lib.ListN.{length, getD, set}
 use lib.Seq.{sets}
 use lib.Dec.{ltb, leb}
 use Rattle.dalvik.specs.Numbers.{byte, le16}
@@ -14,6 +14,7 @@ use Rattle.dalvik.specs.Instructions.Kind.{strings}
 use Rattle.refusal.specs.Refusals.{largestFile}
 use Rattle.index_width.specs.Width.{widthOf}
 use Rattle.index_width.specs.Kinds.{isStrings}
+use Rattle.index_set.specs.Bits.{isHeld}
 use Rattle.code_item_scan.specs.Scan.{Hit, indexAt, isIn, hitsIn, offs, marks}
 
 -- r is the number of two bytes at i
@@ -47,11 +48,14 @@ pub record TableOf (wanted table : List ℕ) : Type 0 where
   pub long : length table ≡ 65536
   pub at : (x : ℕ) → x < 65536 → getD table x 0 ≡ bit (isIn x wanted)
 
--- an index is wanted only if it stands among the words before the place that its low half has
-pub record PlacesOf (wanted places : List ℕ) : Type 0 where
-  pub long : length places ≡ 65536
-  pub inside : (x : ℕ) → getD places x 0 ≤ length wanted
-  pub at : (x : ℕ) → isIn x (take (getD places (x % 65536) 0) wanted) ≡ isIn x wanted
+-- no index is held
+abbrev pub NoneHeld : List ℕ → Type 0
+NoneHeld bits = (x : ℕ) → isHeld bits x ≡ false
+
+-- the set of the wanted words that have a bit in the words, and whether there are others
+pub record WantedOf (wanted bits : List ℕ) (others : Bool) : Type 0 where
+  pub at : (x : ℕ) → x < 64 * length bits → isHeld bits x ≡ isIn x wanted
+  pub none-other : others ≡ false → (x : ℕ) → 64 * length bits ≤ x → isIn x wanted ≡ false
 
 -- what an index of two bytes, looked up in a table, tells of a start, for whichever indices the table is of
 pub record EvenHit (s : List ℕ) (kind : Kind) (table : List ℕ) (p : ℕ) (mark : Option ℕ) : Type 0 where

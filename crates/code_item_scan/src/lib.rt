@@ -1,6 +1,6 @@
 // The scan of a code region for instructions that name one of the wanted indices (code_item_scan.rs).
 // Each fast path is a function of its own behind the definition's contract: starts that cannot be hits are skipped, and whether an
-// index is wanted is asked of a table of 65,536 entries that each call prepares.
+// index is wanted is asked of a table that each call prepares: a bit for each string, a byte for each index of two bytes.
 ghost use mathlib.Core.Path.{_≡_};
 ghost use mathlib.Core.Bool.{false};
 ghost use Prim.Native.Nat.{_+_, _<_, _≤_};
@@ -10,7 +10,7 @@ ghost use Rattle.dalvik.specs.Instructions.Kind.{strings};
 ghost use Rattle.structs.specs.Reads.{ByteAt};
 ghost use Rattle.index_width.specs.Kinds.{isStrings, meant};
 ghost use Rattle.code_item_scan.specs.Scan.{isIn, hitsOf, scanOut};
-ghost use Rattle.code_item_scan.specs.Steps.{Read16, TableOf, PlacesOf, named, EvenHit, Skipped, SkippedEven, Stored, Collected, Region};
+ghost use Rattle.code_item_scan.specs.Steps.{Read16, TableOf, NoneHeld, WantedOf, named, EvenHit, Skipped, SkippedEven, Stored, Collected, Region};
 ghost use Rattle.code_item_scan.specs.Answers.{marked, Gives};
 use index_width::Kind;
 use refusal::Answer;
@@ -59,25 +59,27 @@ fn table_of(wanted: &[u32], table: &mut [u8; 65536])
     }
 }
 
-// For each low half of an index, how many words of `wanted` lead up to the last one with that low half, itself included; 0 for none.
-fn places_of(wanted: &[u32], places: &mut [usize; 65536])
-    requires { ⌜ now places ≡ replicate 65536 0 ⌝ }
-    ensures { λ _. ⌜ PlacesOf (now (wanted .entry)) (now (places .exit)) ⌝ }
+// The wanted words as a set, as far as there are bits for them, and whether there are others.
+fn wanted_of(wanted: &[u32], bits: &mut [u64]) -> bool
+    requires { ⌜ NoneHeld (now bits) ⌝ }
+    ensures { λ r. ⌜ WantedOf (now (wanted .entry)) (now (bits .exit)) r ⌝ }
 {
+    let mut others = false;
     let mut i = 0;
     while i < wanted.len() {
-        let low = (wanted[i] % 65536) as usize;
+        if !index_set::add(bits, wanted[i]) {
+            others = true;
+        }
         i += 1;
-        places[low] = i;
     }
+    others
 }
 
-// Whether x is wanted. The search goes back from the last word with the low half of x: most often that is x, or there is none.
-fn is_wanted(wanted: &[u32], places: &[usize; 65536], x: u32) -> bool
-    requires { ⌜ PlacesOf (now wanted) (now places) ⌝ }
+// Whether x is one of the words.
+fn is_listed(wanted: &[u32], x: u32) -> bool
     ensures { λ r. ⌜ r ≡ isIn x (now (wanted .entry)) ⌝ }
 {
-    let mut i = places[(x % 65536) as usize];
+    let mut i = wanted.len();
     while 0 < i {
         i -= 1;
         if wanted[i] == x {
@@ -87,9 +89,23 @@ fn is_wanted(wanted: &[u32], places: &[usize; 65536], x: u32) -> bool
     false
 }
 
+// Whether x is wanted: one look, or a walk over the words where x has no bit and some wanted word has none either.
+fn is_wanted(wanted: &[u32], bits: &[u64], others: bool, x: u32) -> bool
+    requires { ⌜ WantedOf (now wanted) (now bits) others ⌝ }
+    ensures { λ r. ⌜ r ≡ isIn x (now (wanted .entry)) ⌝ }
+{
+    if ((x / 64) as usize) < bits.len() {
+        return index_set::holds(bits, x);
+    }
+    if others {
+        return is_listed(wanted, x);
+    }
+    false
+}
+
 // A hit of a string index, of two bytes or of four.
-fn string_hit(s: &[u8], end: usize, wanted: &[u32], places: &[usize; 65536], at: usize) -> Hit
-    requires { ⌜ (at + 4 ≤ end) × (end ≤ length (now s)) × PlacesOf (now wanted) (now places) ⌝ }
+fn string_hit(s: &[u8], end: usize, wanted: &[u32], bits: &[u64], others: bool, at: usize) -> Hit
+    requires { ⌜ (at + 4 ≤ end) × (end ≤ length (now s)) × WantedOf (now wanted) (now bits) others ⌝ }
     ensures { λ r. ⌜ marked r ≡ named (now (s .entry)) strings (now (wanted .entry)) end at ⌝ }
 {
     let w = index_width::string_width(s[at]);
@@ -104,7 +120,7 @@ fn string_hit(s: &[u8], end: usize, wanted: &[u32], places: &[usize; 65536], at:
     } else {
         u16_at(s, at + 2)
     };
-    if is_wanted(wanted, places, x) {
+    if is_wanted(wanted, bits, others, x) {
         return Hit::Mark(x);
     }
     Hit::Nothing
@@ -132,6 +148,47 @@ fn store(h: Hit, at: usize, offs: &mut [u32], marks: &mut [u32], n: usize) -> us
 }
 
 // The string hits of a region, and how many there are: stored as far as there is room.
+fn collect_wanted(
+    s: &[u8],
+    start: usize,
+    end: usize,
+    wanted: &[u32],
+    bits: &[u64],
+    others: bool,
+    offs: &mut [u32],
+    marks: &mut [u32],
+) -> usize
+    requires { ⌜ Region (now s) start end × WantedOf (now wanted) (now bits) others ⌝ }
+    ensures { λ r. ⌜ Collected (hitsOf (now (s .entry)) strings (now (wanted .entry)) start end) (now (offs .entry)) (now (marks .entry)) (now (offs .exit)) (now (marks .exit)) r ⌝ }
+{
+    let mut at = skip(s, end, start);
+    let mut n: usize = 0;
+    while 4 <= end - at {
+        let h = string_hit(s, end, wanted, bits, others, at);
+        n = store(h, at, offs, marks, n);
+        at = skip(s, end, at + 1);
+    }
+    n
+}
+
+// The same with a bit for each of 4,194,304 indices: a file within the limit has no more strings.
+fn collect_many(
+    s: &[u8],
+    start: usize,
+    end: usize,
+    wanted: &[u32],
+    offs: &mut [u32],
+    marks: &mut [u32],
+) -> usize
+    requires { ⌜ Region (now s) start end ⌝ }
+    ensures { λ r. ⌜ Collected (hitsOf (now (s .entry)) strings (now (wanted .entry)) start end) (now (offs .entry)) (now (marks .entry)) (now (offs .exit)) (now (marks .exit)) r ⌝ }
+{
+    let mut bits = [0u64; 65536];
+    let others = wanted_of(wanted, &mut bits);
+    collect_wanted(s, start, end, wanted, &bits, others, offs, marks)
+}
+
+// The same with a bit for each of 32,768 indices, where these are enough: half a MiB isn't cleared for a small file.
 fn collect_strings(
     s: &[u8],
     start: usize,
@@ -143,16 +200,12 @@ fn collect_strings(
     requires { ⌜ Region (now s) start end ⌝ }
     ensures { λ r. ⌜ Collected (hitsOf (now (s .entry)) strings (now (wanted .entry)) start end) (now (offs .entry)) (now (marks .entry)) (now (offs .exit)) (now (marks .exit)) r ⌝ }
 {
-    let mut places = [0usize; 65536];
-    places_of(wanted, &mut places);
-    let mut at = skip(s, end, start);
-    let mut n: usize = 0;
-    while 4 <= end - at {
-        let h = string_hit(s, end, wanted, &places, at);
-        n = store(h, at, offs, marks, n);
-        at = skip(s, end, at + 1);
+    let mut few = [0u64; 512];
+    let others = wanted_of(wanted, &mut few);
+    if others {
+        return collect_many(s, start, end, wanted, offs, marks);
     }
-    n
+    collect_wanted(s, start, end, wanted, &few, false, offs, marks)
 }
 
 // A hit of a kind whose indices have two bytes. The index is tested first: few are wanted.

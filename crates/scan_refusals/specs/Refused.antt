@@ -19,12 +19,11 @@ use Rattle.scan_refusals.specs.declared.Admission.the-variants.{Scan, Re
 
 -- the first that holds of 1, 2 and 12, for a region of a file of len bytes; else the scan, for the kind asked for
 pub data Admitted (len from to kind : ℕ) (r : Admission) : Type 0 where
-  large : tooLarge len ≡ true → r ≡ Refuse FileTooLarge → Admitted len from to kind r
-  unknown : tooLarge len ≡ false → kindOf kind ≡ none → r ≡ Refuse UnknownKind → Admitted len from to kind r
-  backward : tooLarge len ≡ false → (k : Kind) → kindOf kind ≡ some (meant k) → to < from → r ≡ Refuse RegionOutside → Admitted len from to kind r
-  past-end : tooLarge len ≡ false → (k : Kind) → kindOf kind ≡ some (meant k) → from ≤ to → len < to → r ≡ Refuse RegionOutside
-      → Admitted len from to kind r
-  scan : tooLarge len ≡ false → (k : Kind) → kindOf kind ≡ some (meant k) → from ≤ to → to ≤ len → r ≡ Scan k → Admitted len from to kind r
+  large : r ≡ Refuse FileTooLarge → tooLarge len ≡ true → Admitted len from to kind r
+  unknown : r ≡ Refuse UnknownKind → tooLarge len ≡ false → kindOf kind ≡ none → Admitted len from to kind r
+  backward : (k : Kind) → r ≡ Refuse RegionOutside → tooLarge len ≡ false → kindOf kind ≡ some (meant k) → to < from → Admitted len from to kind r
+  past-end : (k : Kind) → r ≡ Refuse RegionOutside → tooLarge len ≡ false → kindOf kind ≡ some (meant k) → from ≤ to → len < to → Admitted len from to kind r
+  scan : (k : Kind) → r ≡ Scan k → tooLarge len ≡ false → kindOf kind ≡ some (meant k) → from ≤ to → to ≤ len → Admitted len from to kind r
 
 pub record Cleared (offs₀ marks₀ offs₁ marks₁ : List ℕ) : Type 0 where
   pub starts : offs₁ ≡ zeros (length offs₀)

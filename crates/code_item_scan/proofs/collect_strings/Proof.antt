@@ -1,87 +1,60 @@
--- `code_item_scan::collect_strings` meets its contract: at each start that is not skipped the hits stored and those still to come are all.
+-- `code_item_scan::collect_strings` meets its contract: the small set serves where it has a bit for each wanted word.
 -- Assumes nothing.
-use mathlib.Core.Path.{refl, _∙_}
-use Prim.Native.Nat.{_-_}
-use Rattle.dalvik.specs.Instructions.Kind.{strings}
-use Rattle.code_item_scan.specs.Scan.{hitsOf}
-use Rattle.code_item_scan.specs.Steps.{hitsFrom}
-use Rattle.code_item_scan.proofs.Hits.{Going, going-start, string-on, going-end, hits-of, no-hits}
+use mathlib.Core.Path.{subst}
+use Rattle.code_item_scan.specs.Steps.{WantedOf}
+use Rattle.index_set.proofs.Bits.{held-zeros}
 use borrow.Author.Needs.{needs}
-use native.Mathlib.Omega.{arith}
 use Rattle.code_item_scan.proofs.collect_strings.Statement.{statement}
 use Rattle.code_item_scan.proofs.collect_strings.Tie as tie
 
-abbrev Inv-loop : tie.InvT-loop
-Inv-loop s start end wanted offs₀ marks₀ places at₀ n₀ offs marks at n =
-    Going (hitsOf s strings wanted start end) offs₀ marks₀ end (hitsFrom s strings wanted start end at) offs marks at n
+slice-aggregate-wanted-of : tie.Need-slice-aggregate-wanted-of
+slice-aggregate-wanted-of c = search needs
 
-abbrev μ-loop : tie.MeasureT-loop
-μ-loop s start end wanted offs₀ marks₀ places at₀ n₀ offs marks at n = end - at
+wanted-of-requires : tie.Need-wanted-of-requires
+wanted-of-requires c κs = held-zeros 512
 
-places-of-requires : tie.Need-places-of-requires Inv-loop μ-loop
-places-of-requires c κs = refl
+collect-many-requires : tie.Need-collect-many-requires
+collect-many-requires c κs = search needs
 
-skip-requires : tie.Need-skip-requires Inv-loop μ-loop
-skip-requires c κs = search needs
-
-loop-holds : tie.Need-loop-holds Inv-loop μ-loop
-loop-holds c =
-    let a = c .before .before .before .before .before .before .before .args in
-    let j = c .skip .ensures in
-    going-start (hits-of (a .s .now) strings (a .wanted .now) (a .start) (a .end) ∙ j .same (a .wanted .now) (a .start)) (j .inside)
-
-sub-loop : tie.Need-sub-loop Inv-loop μ-loop
-sub-loop c = search needs
-
-string-hit-requires : tie.Need-string-hit-requires Inv-loop μ-loop
-string-hit-requires c κs = (omega arith, omega arith, c .before .before .before .before .places-of .ensures)
-
-store-requires : tie.Need-store-requires Inv-loop μ-loop
-store-requires c κs = search needs
-
-add-skip : tie.Need-add-skip Inv-loop μ-loop
-add-skip c = search needs
-
-skip-requires-2 : tie.Need-skip-requires-2 Inv-loop μ-loop
-skip-requires-2 c κs = search needs
-
-loop-less : tie.Need-loop-less Inv-loop μ-loop
-loop-less c = search needs
-
-loop-again : tie.Need-loop-again Inv-loop μ-loop
-loop-again c =
-    let a = c .before .before .before .before .before .before .before .before .before .before .before .before .before .before .before .before .before .before .before .args in
-    string-on (a .s .now) (a .wanted .now) (a .start) (c .before .before .before .before .before .before .before .before .before .before .before .loop .inv) (c .before .before .before .before .before .before .before .before .before .before .loop-test .taken) (c .before .before .before .before .before .before .before .before .string-hit .ensures) (c .before .before .before .before .before .store .ensures)
-    (c .skip2 .ensures)
-
-same-length : tie.Need-same-length Inv-loop μ-loop
+same-length : tie.Need-same-length
 same-length c = search needs
 
-same-length-2 : tie.Need-same-length-2 Inv-loop μ-loop
+same-length-2 : tie.Need-same-length-2
 same-length-2 c = search needs
 
-returns : tie.Need-returns Inv-loop μ-loop
-returns c =
-    let a = c .before .before .before .before .before .before .before .before .before .args in
-    let k = c .before .loop in
-    going-end (k .inv) (no-hits (a .s .now) strings (a .wanted .now) (a .start) (a .end) (k .at) (omega arith))
+returns : tie.Need-returns
+returns c = search needs
+
+slice-aggregate-collect-wanted : tie.Need-slice-aggregate-collect-wanted
+slice-aggregate-collect-wanted c = search needs
+
+collect-wanted-requires : tie.Need-collect-wanted-requires
+collect-wanted-requires c κs =
+    let w = c .before .before .before .before .before in
+    let told = c .before .before .before .if1 .left in
+    (w .before .before .before .before .before .before .pre, subst (WantedOf _ _) told (w .wanted-of .ensures))
+
+same-length-3 : tie.Need-same-length-3
+same-length-3 c = search needs
+
+same-length-4 : tie.Need-same-length-4
+same-length-4 c = search needs
+
+returns-2 : tie.Need-returns-2
+returns-2 c = search needs
 
 pub collect-strings-spec : {M : Type 1} → statement M
 collect-strings-spec =
     tie.close
     (tie.spec
-    Inv-loop
-    μ-loop
-    places-of-requires
-    skip-requires
-    loop-holds
-    sub-loop
-    string-hit-requires
-    store-requires
-    add-skip
-    skip-requires-2
-    loop-less
-    loop-again
+    slice-aggregate-wanted-of
+    wanted-of-requires
+    collect-many-requires
     same-length
     same-length-2
-    returns)
+    returns
+    slice-aggregate-collect-wanted
+    collect-wanted-requires
+    same-length-3
+    same-length-4
+    returns-2)

@@ -18,18 +18,18 @@ string-width-requires c κs = search needs
 
 returns : tie.Need-returns
 returns c =
-    let a = c .before .before .before .before .before .args in
+    let a = c .before .before .before .before .before .before .args in
     named-other (a .s .now) strings (a .wanted .now) (a .end) (a .at) (sym (c .if1 .taken) ∙ c .before .string-width .ensures)
 
 sub-if2 : tie.Need-sub-if2
 sub-if2 c = search needs
 
 add-if2 : tie.Need-add-if2
-add-if2 c = omega (arith, c .before .string-width .ensures, width-small (byte (c .before .before .before .before .before .args .s .now) (c .before .before .before .before .before .args .at)))
+add-if2 c = omega (arith, c .before .string-width .ensures, width-small (byte (c .before .before .before .before .before .before .args .s .now) (c .before .before .before .before .before .before .args .at)))
 
 returns-2 : tie.Need-returns-2
 returns-2 c =
-    let a = c .before .before .before .before .before .before .args in
+    let a = c .before .before .before .before .before .before .before .args in
     named-short (a .s .now) strings (a .wanted .now) (a .end) (a .at) (c .before .before .string-width .result) (c .before .before .string-width .ensures) (omega arith)
 
 add-u32-at : tie.Need-add-u32-at
@@ -49,7 +49,7 @@ is-wanted-requires c κs = search needs
 
 returns-3 : tie.Need-returns-3
 returns-3 c =
-    let a = c .before .before .before .before .before .before .before .before .before .args in
+    let a = c .before .before .before .before .before .before .before .before .before .before .args in
     let v = c .before .before .before .before .before .string-width in
     named-wanted (a .s .now) strings (a .wanted .now) (a .end) (a .at) (v .result) (c .before .before .if3 .x) (v .ensures) (omega arith) (omega arith)
     (⊎-elim (λ w. w .2 ∙ w .1 .ensures ∙ index-four (a .s .now) (a .at + 2) (v .result) (w .0 .taken)) (λ w. w .2 ∙ w .1 .ensures .is ∙ index-two (a .s .now) (a .at + 2) (v .result) (w .0 .left)) (c .before .before .if3 .came))
@@ -57,7 +57,7 @@ returns-3 c =
 
 returns-4 : tie.Need-returns-4
 returns-4 c =
-    let a = c .before .before .before .before .before .before .before .before .before .args in
+    let a = c .before .before .before .before .before .before .before .before .before .before .args in
     let v = c .before .before .before .before .before .string-width in
     named-unwanted (a .s .now) strings (a .wanted .now) (a .end) (a .at) (v .result) (c .before .before .if3 .x) (v .ensures)
     (⊎-elim (λ w. w .2 ∙ w .1 .ensures ∙ index-four (a .s .now) (a .at + 2) (v .result) (w .0 .taken)) (λ w. w .2 ∙ w .1 .ensures .is ∙ index-two (a .s .now) (a .at + 2) (v .result) (w .0 .left)) (c .before .before .if3 .came))
