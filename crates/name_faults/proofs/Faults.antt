@@ -1,29 +1,29 @@
 -- The faults of the filter, a law for each way out.
 -- Assumes nothing.
-use Prim.Native.Nat.{ℕ, zero, suc, _+_, _≤_, _<_}
+use Prim.Native.Nat.{ℕ, _+_, _≤_, _<_}
 use native.Mathlib.Numerals.{add-one}
 use native.Mathlib.Omega.{arith}
 use mathlib.Core.Path.{_≡_, refl, ap, sym, subst, _∙_}
 use mathlib.Core.Bool.{Bool, true, false, cond, not, _&&_}
 use mathlib.Core.Logic.{⊎-elim}
-use mathlib.Core.List.{List, [], _∷_}
+use mathlib.Core.List.{List}
 use lib.ListN.{length, getD, drop, drop-of-length-le}
 use lib.Seq.{drop-cons}
 use lib.Dec.{ltb, eqb}
-use borrow.Author.Tests.{lt-ltb, le-ltb, eq-eqb, eqb-true, ltb-true}
+use borrow.Author.Tests.{lt-ltb, le-ltb, ltb-false}
 use Rattle.words.proofs.Shared.{case, or-right}
 use Rattle.dalvik.specs.Numbers.{le32}
 use Rattle.dalvik.specs.Ids.{item, stringIdSize, string-data-off}
 use Rattle.refusal.specs.declared.Refusal.{Refusal}
 use Rattle.refusal.specs.declared.Refusal.the-variants.{NotAscii}
-use Rattle.refusal.specs.Refusals.{refusalNumber, tooLarge}
+use Rattle.refusal.specs.Refusals.{refusalNumber, largestFile, tooLarge}
 use Rattle.rising.proofs.Sets.{below-or-not}
 use Rattle.refusal.proofs.Numbers.{numbered}
 use Rattle.string_data.specs.Text.{Found, none, found, stringText, stretchOf}
 use Rattle.string_search.specs.Search.{Decides}
 use Rattle.matches_name.specs.Names.{isAscii, HasName}
 use Rattle.matches_name.proofs.Names.{has-empty-of}
-use Rattle.name_faults.specs.Faults.{textFault, nameFault, orFault, firstFault, headFault, filterFault, Judged}
+use Rattle.name_faults.specs.Faults.{textFault, firstFault, headFault, filterFault, Judged}
 use Rattle.name_faults.specs.declared.Verdict.{Verdict}
 use Rattle.name_faults.specs.declared.Verdict.the-variants as v
 
@@ -102,34 +102,6 @@ module _ (s : List ℕ) (count table : ℕ) (asked : Bool) (given : List ℕ) (i
     unfolding firstFault
     fault-next k e = rw (drop-cons given i 0 h, lt-ltb (getD given i 0) count k, ← e, add-one i)
 
--- no fault: none of the first, and none of the others
-or-head : (a b : ℕ) → 0 ≡ orFault a b → 0 ≡ a
-or-head a b e = ⊎-elim (λ (t : eqb a 0 ≡ true). sym (eqb-true a 0 t)) (λ (t : eqb a 0 ≡ false). rw t at e) (case (eqb a 0))
-
-or-tail : (a b : ℕ) → 0 ≡ orFault a b → 0 ≡ b
-or-tail a b e =
-    let z : eqb a 0 ≡ true = eq-eqb a 0 (sym (or-head a b e)) in
-    rw z at e
-
-head-below : (s : List ℕ) (count table : ℕ) (asked : Bool) (i : ℕ) → 0 ≡ nameFault s count table asked i → i < count
-head-below s count table asked i e =
-    ⊎-elim (λ (t : ltb i count ≡ true). ltb-true i count t) (λ (t : ltb i count ≡ false). absurd (let z : _≡_ {A = ℕ} 0 13 = rw t at e in omega arith)) (case (ltb i count))
-
--- so every given index is below the count
-pub all-below : (s : List ℕ) (count table : ℕ) (asked : Bool) (given : List ℕ) → 0 ≡ firstFault s count table asked given → (k : ℕ) → k < length given → getD given k 0 < count
-unfolding firstFault
-all-below s count table asked [] e k h = absurd (omega arith)
-all-below s count table asked (i ∷ is) e zero h = head-below s count table asked i (or-head (nameFault s count table asked i) (firstFault s count table asked is) e)
-all-below s count table asked (i ∷ is) e (suc k) h =
-    all-below s count table asked is (or-tail (nameFault s count table asked i) (firstFault s count table asked is) e) k (omega arith)
-
--- .. and nothing speaks against the one at i
-pub first-here : (s : List ℕ) (count table : ℕ) (asked : Bool) (given : List ℕ) (i : ℕ) → i < length given → getD given i 0 < count → 0 ≡ firstFault s count table asked (drop i given)
-    → 0 ≡ textFault s asked (stringText s (string-data-off s table (getD given i 0)))
-unfolding firstFault
-first-here s count table asked given i h k e =
-    or-head (textFault s asked (stringText s (string-data-off s table (getD given i 0)))) (firstFault s count table asked (drop (suc i) given)) (rw (drop-cons given i 0 h, lt-ltb (getD given i 0) count k) at e)
-
 -- before any index is looked at
 module _ (s q : List ℕ) where
   pub head-large : tooLarge (length s) ≡ true → 1 ≡ headFault s q
@@ -160,6 +132,7 @@ module _ (s q : List ℕ) where
 
 -- what no fault of the head says
 pub record Sound (s : List ℕ) : Type 0 where
+  pub small : length s ≤ largestFile
   pub header : 0x70 ≤ length s
   pub ids : item (le32 s 0x3c) stringIdSize (le32 s 0x38) ≤ length s
 
@@ -168,7 +141,7 @@ no-fault s q e =
     ⊎-elim (λ (l : tooLarge (length s) ≡ true). absurd (let f = head-large s q l in let z : _≡_ {A = ℕ} 0 1 = cc in omega arith))
     (λ (l : tooLarge (length s) ≡ false). ⊎-elim (λ (h : length s < 0x70). absurd (let f = head-short s q l h in let z : _≡_ {A = ℕ} 0 3 = cc in omega arith))
     (λ (h : 0x70 ≤ length s). ⊎-elim (λ (k : length s < item (le32 s 0x3c) stringIdSize (le32 s 0x38)). absurd (let f = head-table s q l k in let z : _≡_ {A = ℕ} 0 3 = cc in omega arith))
-    (λ (k : item (le32 s 0x3c) stringIdSize (le32 s 0x38) ≤ length s). record { header = h; ids = k })
+    (λ (k : item (le32 s 0x3c) stringIdSize (le32 s 0x38) ≤ length s). record { small = ltb-false largestFile (length s) l; header = h; ids = k })
     (below-or-not (length s) (item (le32 s 0x3c) stringIdSize (le32 s 0x38))))
     (below-or-not (length s) 0x70))
     (case (tooLarge (length s)))

@@ -1,10 +1,10 @@
 -- What speaks against a call of the name filter: document 01, string_locator.rs (`locate_name_indices`) and "Name filter".
 -- Assumes nothing.
-use Prim.Native.Nat.{ℕ, _-_, _<_}
+use Prim.Native.Nat.{ℕ}
 use mathlib.Core.Path.{_≡_}
 use mathlib.Core.Bool.{Bool, cond, not, _&&_, _||_}
 use mathlib.Core.List.{List, [], _∷_}
-use lib.ListN.{length, getD}
+use lib.ListN.{length}
 use lib.Dec.{ltb, eqb}
 use Rattle.dalvik.specs.Numbers.{le32}
 use Rattle.dalvik.specs.Ids.{item, stringIdSize, string-data-off}
@@ -47,11 +47,3 @@ filterFault s q given = orFault (headFault s q) (firstFault s (le32 s 0x38) (le3
 pub record Judged (s q : List ℕ) (f : Found) (r : Verdict) : Type 0 where
   pub known : (b : Bool) → r ≡ Known b → (0 ≡ textFault s (ltb 0 (length q)) f) × Decides (HasName (stretchOf s f) q) b
   pub refused : (why : Refusal) → r ≡ Refused why → refusalNumber why ≡ textFault s (ltb 0 (length q)) f
-
-abbrev pub Good : List ℕ → ℕ → Bool → ℕ → Type 0
-Good s table asked i = 0 ≡ textFault s asked (stringText s (string-data-off s table i))
-
--- a table remembers of some numbers, by one more than each, that P holds of them
-pub record Memo (P : ℕ → Type 0) (l : List ℕ) : Type 0 where
-  pub long : length l ≡ 4096
-  pub holds : (k : ℕ) → 0 < getD l k 0 → P (getD l k 0 - 1)

@@ -1,5 +1,5 @@
-// What speaks against a call of the name filter (`locate_name_indices` of string_locator.rs): the header, the query, and the given
-// indices in their order. And one text of the file: its fault, or whether it contains the query.
+// What speaks against a call of the name filter (`locate_name_indices` of string_locator.rs) before any given index is looked at: the
+// file, its header, the query. And one text of the file: its fault, or whether it contains the query.
 use refusal::Refusal;
 use string_data::StringText;
 use string_search::Fault;
@@ -7,12 +7,10 @@ use structs::Read32;
 ghost use mathlib.Core.Path.{_≡_};
 ghost use Prim.Native.Nat.{_+_, _≤_, _<_};
 ghost use lib.ListN.{length};
-ghost use lib.Dec.{ltb};
 ghost use Rattle.dalvik.specs.Numbers.{le32};
-ghost use Rattle.dalvik.specs.Ids.{item as itemAt, string-data-off as dataOff};
 ghost use Rattle.string_data.specs.Text.{stringText, found};
 ghost use Rattle.string_search.specs.Search.{faultNumber};
-ghost use Rattle.name_faults.specs.Faults.{Judged, textFault, firstFault, headFault, filterFault, Memo, Good};
+ghost use Rattle.name_faults.specs.Faults.{Judged, headFault};
 
 // Whether a text contains the query, or why the text is refused.
 pub enum Verdict {
@@ -28,14 +26,6 @@ fn word(file: &[u8], at: usize) -> u32
         return 0;
     };
     value
-}
-
-// The data offset of a string.
-fn data_offset(file: &[u8], table: u32, index: u32) -> usize
-    requires { ⌜ itemAt table 4 (index + 1) ≤ length (now file) ⌝ }
-    ensures { λ r. ⌜ r ≡ dataOff (now (file .entry)) table index ⌝ }
-{
-    word(file, (table as usize) + 4 * (index as usize)) as usize
 }
 
 // The empty query stands in any text; another is looked for in an ASCII text only.
@@ -63,45 +53,6 @@ pub fn judge(file: &[u8], offset: usize, query: &[u8]) -> Verdict
     }
 }
 
-// What speaks against a string index, looked up once for most: `good` remembers indices of texts that nothing speaks against.
-fn name_fault(file: &[u8], table: u32, index: u32, query: &[u8], good: &mut [usize; 4096]) -> Fault
-    requires { ⌜ (itemAt table 4 (index + 1) ≤ length (now file)) × Memo (Good (now file) table (ltb 0 (length (now query)))) (now good) ⌝ }
-    ensures { λ r. ⌜ (faultNumber r ≡ textFault (now (file .entry)) (ltb 0 (length (now (query .entry)))) (stringText (now (file .entry)) (dataOff (now (file .entry)) table index))) × Memo (Good (now (file .entry)) table (ltb 0 (length (now (query .entry))))) (now (good .exit)) ⌝ }
-{
-    let key = index as usize + 1;
-    let k = (index % 4096) as usize;
-    if good[k] == key {
-        return Fault::Nothing;
-    }
-    let verdict = judge(file, data_offset(file, table, index), query);
-    if let Verdict::Refused(why) = verdict {
-        return Fault::Refused(why);
-    }
-    good[k] = key;
-    Fault::Nothing
-}
-
-// The first fault among the given indices, in their order.
-fn first_fault(file: &[u8], count: u32, table: u32, query: &[u8], given: &[u32]) -> Fault
-    requires { ⌜ itemAt table 4 count ≤ length (now file) ⌝ }
-    ensures { λ r. ⌜ faultNumber r ≡ firstFault (now (file .entry)) count table (ltb 0 (length (now (query .entry)))) (now (given .entry)) ⌝ }
-{
-    let mut good = [0usize; 4096];
-    let mut i = 0;
-    while i < given.len() {
-        let index = given[i];
-        if count <= index {
-            return Fault::Refused(Refusal::StringIndex);
-        }
-        let fault = name_fault(file, table, index, query, &mut good);
-        if let Fault::Refused(why) = fault {
-            return Fault::Refused(why);
-        }
-        i += 1;
-    }
-    Fault::Nothing
-}
-
 // The first fault of the file, its header and the query.
 pub fn head_fault(file: &[u8], query: &[u8]) -> Fault
     ensures { λ r. ⌜ faultNumber r ≡ headFault (now (file .entry)) (now (query .entry)) ⌝ }
@@ -123,15 +74,4 @@ pub fn head_fault(file: &[u8], query: &[u8]) -> Fault
         return Fault::Nothing;
     }
     Fault::Refused(Refusal::BadQuery)
-}
-
-// The first fault but for the lent words.
-pub fn filter_fault(file: &[u8], given: &[u32], query: &[u8]) -> Fault
-    ensures { λ r. ⌜ faultNumber r ≡ filterFault (now (file .entry)) (now (query .entry)) (now (given .entry)) ⌝ }
-{
-    let fault = head_fault(file, query);
-    if let Fault::Refused(why) = fault {
-        return Fault::Refused(why);
-    }
-    first_fault(file, word(file, 0x38), word(file, 0x3c), query, given)
 }

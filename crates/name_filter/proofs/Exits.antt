@@ -1,9 +1,8 @@
--- The ways out: before a table is filled, and in the end.
+-- The ways out of the whole filter.
 -- Assumes nothing.
-use Prim.Native.Nat.{ℕ, _≤_}
+use Prim.Native.Nat.{ℕ}
 use native.Mathlib.Omega.{arith}
-use mathlib.Core.Path.{_≡_, refl, ap, sym, subst, _∙_}
-use mathlib.Core.Logic.{_⊎_, inl, inr, ⊎-elim}
+use mathlib.Core.Path.{_≡_, ap, sym, subst, _∙_}
 use mathlib.Core.List.{List}
 use lib.ListN.{length}
 use lib.Dec.{ltb}
@@ -16,36 +15,15 @@ use Rattle.refusal.specs.declared.Answer.the-variants as answer
 use Rattle.refusal.specs.Refusals.{refusalNumber}
 use Rattle.rising.specs.Found.{Found}
 use Rattle.rising.proofs.Found.{found-refused, found-short, found-all}
-use Rattle.string_search.specs.declared.Fault.{Fault}
-use Rattle.string_search.specs.declared.Fault.the-variants as fault
-use Rattle.string_search.specs.Search.{faultNumber}
 use Rattle.name_faults.specs.Faults.{firstFault, headFault, filterFault}
 use Rattle.name_faults.proofs.Faults.{filter-known}
-use Rattle.name_filter.specs.Names.{Named, Covered, Sifted, done, short, stopped, Early}
+use Rattle.name_filter.specs.Names.{Named, Sifted, done, short, stopped, Refuses}
 use Rattle.name_filter.proofs.Listing.{named-listed}
-
-module _ (s q given : List ℕ) where
-  pub early-refused : (why : Refusal) → refusalNumber why ≡ filterFault s q given → Early s q given (fault.Refused why)
-  early-refused why e = record {
-    stops = λ w g. let k : why ≡ w = cc in sym (ap refusalNumber k) ∙ e;
-    none = λ g. absurd (let z : _≡_ {A = ℕ} 0 1 = cc in omega arith);
-    covered = λ g. absurd (let z : _≡_ {A = ℕ} 0 1 = cc in omega arith);
-  }
-
-  module _ (z : 0 ≡ headFault s q) where
-    pub early-small : le32 s 0x38 ≤ 131072 → Early s q given fault.Nothing
-    early-small h = record { stops = λ w g. absurd (let y : _≡_ {A = ℕ} 0 1 = cc in omega arith); none = λ g. z; covered = λ g. inr h }
-
-    pub early-all : (r : Fault) → faultNumber r ≡ filterFault s q given → Early s q given r
-    early-all r e = record { stops = λ w g. sym (ap faultNumber g) ∙ e; none = λ g. z; covered = λ g. inl (sym (ap faultNumber g) ∙ e) }
 
 -- the header's words as the code has them
 module _ (s q given : List ℕ) (count table : ℕ) (c : count ≡ le32 s 0x38) (t : table ≡ le32 s 0x3c) (z : 0 ≡ headFault s q) where
   number : firstFault s count table (ltb 0 (length q)) given ≡ filterFault s q given
   number = filter-known s q given count table c t z
-
-  pub begun-covered : (0 ≡ filterFault s q given) ⊎ (le32 s 0x38 ≤ 131072) → Covered s count table q given 0
-  begun-covered e = ⊎-elim (λ (h : 0 ≡ filterFault s q given). inl (h ∙ sym number)) (λ (h : le32 s 0x38 ≤ 131072). inr (refl, omega (arith, c))) e
 
   module _ {mid out′ : List ℕ} {r : Answer} (m : Sifted (Named s table q given) (firstFault s count table (ltb 0 (length q)) given) mid out′ r) (before : List ℕ) (same : length mid ≡ length before) where
     here : Sifted (Named s (le32 s 0x3c) q given) (filterFault s q given) mid out′ r
@@ -75,3 +53,7 @@ module _ (s q given : List ℕ) (count table : ℕ) (c : count ≡ le32 s 0x38) 
             subst (λ (a : Answer). Found (Named s (le32 s 0x3c) q given) (filterFault s q given) a before after) i
             (found-short (named-listed s (le32 s 0x3c) q given) (filterFault s q given) y (λ l p. omega (arith, same, more l p)) cleared)
         go (stopped x f y) = let i : x ≡ why = cc in found-refused (named-listed s (le32 s 0x3c) q given) why (filterFault s q given) (sym (ap refusalNumber i) ∙ y) cleared
+
+-- .. with the answer as it was made
+pub as-refused : {P : ℕ → Type 0} {fault : ℕ} {why : Refusal} {before lent after : List ℕ} {r : Answer} → Refuses why lent after r → Found P fault (answer.Refused why) before after → Found P fault r before after
+as-refused {P} {fault} {why} {before} {lent} {after} x f = subst (λ (a : Answer). Found P fault a before after) (sym (x .answer-is)) f

@@ -1,5 +1,4 @@
 pub mod Listing
 pub mod Marks
-pub mod Gathering
-pub mod Windows
+pub mod Sifting
 pub mod Exits

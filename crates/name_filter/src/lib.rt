@@ -1,6 +1,6 @@
 // The name filter (`locate_name_indices` of string_locator.rs): of the given string indices those whose text contains the query,
-// ASCII case ignored. The header's own count and table of strings are used. A table has a mark for each of 131072 strings: each is
-// looked at once, and those that have the name are then read off it in order. A file with more strings takes a table after another.
+// ASCII case ignored. The header's own count and table of strings are used. Each string is looked at once: two sets remember which
+// were seen and which of them have the name, with as many bits as the file's count of strings asks for.
 use name_faults::Verdict;
 use refusal::Answer;
 use refusal::Refusal;
@@ -10,12 +10,11 @@ use structs::Read32;
 ghost use mathlib.Core.Path.{_≡_};
 ghost use Prim.Native.Nat.{_+_, _≤_, _<_};
 ghost use lib.ListN.{length};
-ghost use lib.Dec.{ltb};
 ghost use Rattle.dalvik.specs.Numbers.{le32};
 ghost use Rattle.dalvik.specs.Ids.{item as itemAt, string-data-off as dataOff};
-ghost use Rattle.rising.specs.Found.{Found, Matched};
-ghost use Rattle.name_faults.specs.Faults.{firstFault, filterFault};
-ghost use Rattle.name_filter.specs.Names.{Named, Early, Begun, Window, markOf, Marks, Looked, Unmarked, AllLooked, Gathers, HeldOr, MarkedAt, InWindow, Sifted};
+ghost use Rattle.rising.specs.Found.{Found};
+ghost use Rattle.name_faults.specs.Faults.{filterFault};
+ghost use Rattle.name_filter.specs.Names.{Named, Noted, Room, Looking, Looked, Unmarked, AllLooked, Begun, Counted, SiftedOf, Refuses};
 
 fn word(file: &[u8], at: usize) -> u32
     requires { ⌜ at + 4 ≤ length (now file) ⌝ }
@@ -35,37 +34,35 @@ fn data_offset(file: &[u8], table: u32, index: u32) -> usize
     word(file, (table as usize) + 4 * (index as usize)) as usize
 }
 
-fn mark_of(has: bool) -> u8
-    ensures { λ r. ⌜ r ≡ markOf has ⌝ }
+// A string is seen, and has the name or not.
+fn note(seen: &mut [u64], has: &mut [u64], index: u32, named: bool)
+    requires { ⌜ Room (index + 1) (now seen) (now has) ⌝ }
+    ensures { λ _. ⌜ Noted index named (now (seen .entry)) (now (has .entry)) (now (seen .exit)) (now (has .exit)) ⌝ }
 {
-    if has { 1 } else { 2 }
+    index_set::add(seen, index);
+    if named {
+        index_set::add(has, index);
+    }
 }
 
-// One given index: it is looked at if the table from `base` on has no mark for it yet.
+// One given index: its string is looked at if it is not seen yet.
 fn mark_one(
     file: &[u8],
     table: u32,
     index: u32,
     query: &[u8],
-    base: u32,
-    marks: &mut [u8; 131072],
+    seen: &mut [u64],
+    has: &mut [u64],
 ) -> Fault
-    requires { ⌜ (itemAt table 4 (index + 1) ≤ length (now file)) × Marks (now file) table (now query) base (now marks) ⌝ }
-    ensures { λ r. ⌜ Looked (now (file .entry)) table (now (query .entry)) base index (now (marks .entry)) (now (marks .exit)) r ⌝ }
+    requires { ⌜ Looking (now file) table (now query) index (now seen) (now has) ⌝ }
+    ensures { λ r. ⌜ Looked (now (file .entry)) table (now (query .entry)) index (now (seen .entry)) (now (seen .exit)) (now (has .exit)) r ⌝ }
 {
-    if index < base {
-        return Fault::Nothing;
-    }
-    let k = (index - base) as usize;
-    if 131072 <= k {
-        return Fault::Nothing;
-    }
-    if marks[k] != 0 {
+    if index_set::holds(seen, index) {
         return Fault::Nothing;
     }
     match name_faults::judge(file, data_offset(file, table, index), query) {
-        Verdict::Known(has) => {
-            marks[k] = mark_of(has);
+        Verdict::Known(named) => {
+            note(seen, has, index, named);
             Fault::Nothing
         }
         Verdict::Refused(why) => Fault::Refused(why),
@@ -79,11 +76,11 @@ fn mark(
     table: u32,
     query: &[u8],
     given: &[u32],
-    base: u32,
-    marks: &mut [u8; 131072],
+    seen: &mut [u64],
+    has: &mut [u64],
 ) -> Fault
-    requires { ⌜ Unmarked (now file) count table (now query) (now given) base (now marks) ⌝ }
-    ensures { λ r. ⌜ AllLooked (now (file .entry)) count table (now (query .entry)) (now (given .entry)) base (now (marks .exit)) r ⌝ }
+    requires { ⌜ Unmarked (now file) count table (now seen) (now has) ⌝ }
+    ensures { λ r. ⌜ AllLooked (now (file .entry)) count table (now (query .entry)) (now (given .entry)) (now (seen .exit)) (now (has .exit)) r ⌝ }
 {
     let mut i = 0;
     while i < given.len() {
@@ -91,7 +88,7 @@ fn mark(
         if count <= index {
             return Fault::Refused(Refusal::StringIndex);
         }
-        let fault = mark_one(file, table, index, query, base, marks);
+        let fault = mark_one(file, table, index, query, seen, has);
         if let Fault::Refused(why) = fault {
             return Fault::Refused(why);
         }
@@ -100,97 +97,121 @@ fn mark(
     Fault::Nothing
 }
 
-// The strings that have the mark 1 join the n words held.
-fn gather(marks: &[u8], base: u32, out: &mut [u32], n: usize) -> Insertion
-    requires { ⌜ Gathers base (now marks) n (now out) ⌝ }
-    ensures { λ r. ⌜ Matched (HeldOr n (now (out .entry)) (MarkedAt base (now (marks .entry)))) (now (out .entry)) (now (out .exit)) r ⌝ }
-{
-    let end = marks.len();
-    let mut held = n;
-    let mut k = memchr::memchr(1, marks, 0, end);
-    while k < end {
-        let Insertion::Held(m) = rising::insert(out, held, base + k as u32) else {
-            return Insertion::Full;
-        };
-        held = m;
-        k = memchr::memchr(1, marks, k + 1, end);
-    }
-    Insertion::Held(held)
-}
-
-// The strings from `base` on that one table has marks for.
-fn window(
+// The named strings are read off the set in order.
+fn sift(
     file: &[u8],
     count: u32,
     table: u32,
     query: &[u8],
     given: &[u32],
-    base: u32,
+    seen: &mut [u64],
+    has: &mut [u64],
     out: &mut [u32],
-    n: usize,
 ) -> Answer
-    requires { ⌜ Window (now file) count table (now query) (now given) base n (now out) ⌝ }
-    ensures { λ r. ⌜ Sifted (HeldOr n (now (out .entry)) (InWindow (now (file .entry)) table (now (query .entry)) (now (given .entry)) base)) (firstFault (now (file .entry)) count table (ltb 0 (length (now (query .entry)))) (now (given .entry))) (now (out .entry)) (now (out .exit)) r ⌝ }
+    requires { ⌜ Begun (now file) count table (now seen) (now has) (now out) ⌝ }
+    ensures { λ r. ⌜ SiftedOf (now (file .entry)) count table (now (query .entry)) (now (given .entry)) (now (out .entry)) (now (out .exit)) r ⌝ }
 {
-    let mut marks = [0u8; 131072];
-    let fault = mark(file, count, table, query, given, base, &mut marks);
+    let fault = mark(file, count, table, query, given, seen, has);
     if let Fault::Refused(why) = fault {
         return Answer::Refused(why);
     }
-    let end = words::lesser(count - base, 131072) as usize;
-    let Insertion::Held(m) = gather(&marks[..end], base, out, n) else {
+    let Insertion::Held(n) = index_set::gather(has, out, 0) else {
         return Answer::Refused(Refusal::LentTooShort);
     };
-    Answer::Done(m)
+    Answer::Done(n)
 }
 
-// One table after another.
-fn sift(file: &[u8], count: u32, table: u32, query: &[u8], given: &[u32], out: &mut [u32]) -> Answer
-    requires { ⌜ Begun (now file) count table (now query) (now given) (now out) ⌝ }
-    ensures { λ r. ⌜ Sifted (Named (now (file .entry)) table (now (query .entry)) (now (given .entry))) (firstFault (now (file .entry)) count table (ltb 0 (length (now (query .entry)))) (now (given .entry))) (now (out .entry)) (now (out .exit)) r ⌝ }
+// Sets for few strings.
+fn sift_few(
+    file: &[u8],
+    count: u32,
+    table: u32,
+    query: &[u8],
+    given: &[u32],
+    out: &mut [u32],
+) -> Answer
+    requires { ⌜ Counted 4096 (now file) count table (now out) ⌝ }
+    ensures { λ r. ⌜ SiftedOf (now (file .entry)) count table (now (query .entry)) (now (given .entry)) (now (out .entry)) (now (out .exit)) r ⌝ }
 {
-    let mut base: u32 = 0;
-    let mut n = 0;
-    loop {
-        match window(file, count, table, query, given, base, out, n) {
-            Answer::Refused(why) => return Answer::Refused(why),
-            Answer::Done(m) => n = m,
-        }
-        if count - base <= 131072 {
-            return Answer::Done(n);
-        }
-        base += 131072;
-    }
+    let mut seen = [0u64; 64];
+    let mut has = [0u64; 64];
+    sift(file, count, table, query, given, &mut seen, &mut has, out)
 }
 
-// The faults that are found before a table is filled: those of the head; and all, where one table does not have all strings.
-fn early_fault(file: &[u8], given: &[u32], query: &[u8]) -> Fault
-    ensures { λ r. ⌜ Early (now (file .entry)) (now (query .entry)) (now (given .entry)) r ⌝ }
+// Sets for more.
+fn sift_some(
+    file: &[u8],
+    count: u32,
+    table: u32,
+    query: &[u8],
+    given: &[u32],
+    out: &mut [u32],
+) -> Answer
+    requires { ⌜ Counted 131072 (now file) count table (now out) ⌝ }
+    ensures { λ r. ⌜ SiftedOf (now (file .entry)) count table (now (query .entry)) (now (given .entry)) (now (out .entry)) (now (out .exit)) r ⌝ }
 {
-    let fault = name_faults::head_fault(file, query);
-    if let Fault::Refused(why) = fault {
-        return Fault::Refused(why);
+    let mut seen = [0u64; 2048];
+    let mut has = [0u64; 2048];
+    sift(file, count, table, query, given, &mut seen, &mut has, out)
+}
+
+// Sets for as many as a file within the limit can have.
+fn sift_many(
+    file: &[u8],
+    count: u32,
+    table: u32,
+    query: &[u8],
+    given: &[u32],
+    out: &mut [u32],
+) -> Answer
+    requires { ⌜ Counted 4194304 (now file) count table (now out) ⌝ }
+    ensures { λ r. ⌜ SiftedOf (now (file .entry)) count table (now (query .entry)) (now (given .entry)) (now (out .entry)) (now (out .exit)) r ⌝ }
+{
+    let mut seen = [0u64; 65536];
+    let mut has = [0u64; 65536];
+    sift(file, count, table, query, given, &mut seen, &mut has, out)
+}
+
+// Sets as large as the count asks for.
+fn sift_all(
+    file: &[u8],
+    count: u32,
+    table: u32,
+    query: &[u8],
+    given: &[u32],
+    out: &mut [u32],
+) -> Answer
+    requires { ⌜ Counted 4194304 (now file) count table (now out) ⌝ }
+    ensures { λ r. ⌜ SiftedOf (now (file .entry)) count table (now (query .entry)) (now (given .entry)) (now (out .entry)) (now (out .exit)) r ⌝ }
+{
+    if count <= 4096 {
+        return sift_few(file, count, table, query, given, out);
     }
-    if word(file, 0x38) <= 131072 {
-        return Fault::Nothing;
+    if count <= 131072 {
+        return sift_some(file, count, table, query, given, out);
     }
-    name_faults::filter_fault(file, given, query)
+    sift_many(file, count, table, query, given, out)
+}
+
+// A refusal leaves zeros.
+fn refuse(lent: &mut [u32], why: Refusal) -> Answer
+    ensures { λ r. ⌜ Refuses why (now (lent .entry)) (now (lent .exit)) r ⌝ }
+{
+    words::clear(lent);
+    Answer::Refused(why)
 }
 
 // The given indices whose string contains the query, rising and without repeats.
 pub fn locate_name_indices(file: &[u8], given: &[u32], query: &[u8], out: &mut [u32]) -> Answer
     ensures { λ r. ⌜ Found (Named (now (file .entry)) (le32 (now (file .entry)) 0x3c) (now (query .entry)) (now (given .entry))) (filterFault (now (file .entry)) (now (query .entry)) (now (given .entry))) r (now (out .entry)) (now (out .exit)) ⌝ }
 {
-    words::clear(out);
-    let fault = early_fault(file, given, query);
+    let fault = name_faults::head_fault(file, query);
     if let Fault::Refused(why) = fault {
-        return Answer::Refused(why);
+        return refuse(out, why);
     }
-    match sift(file, word(file, 0x38), word(file, 0x3c), query, given, out) {
+    words::clear(out);
+    match sift_all(file, word(file, 0x38), word(file, 0x3c), query, given, out) {
         Answer::Done(n) => Answer::Done(n),
-        Answer::Refused(why) => {
-            words::clear(out);
-            Answer::Refused(why)
-        }
+        Answer::Refused(why) => refuse(out, why),
     }
 }

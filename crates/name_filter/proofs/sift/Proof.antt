@@ -1,79 +1,82 @@
--- `name_filter::sift` meets its contract: each table takes its own strings from those to come.
--- Assumes nothing.
-use Rattle.name_filter.proofs.Windows.{NamedFrom, holding, turn, stop, no-fault-yet, sift-start, sift-end}
-use Rattle.name_filter.specs.Names.{Named, Covered}
-use Rattle.rising.proofs.Collected.{Collected, held-length}
-use lib.ListN.{length}
-use mathlib.Core.Logic.{inl}
-use mathlib.Core.Path.{refl}
-use Prim.Native.Nat.{_-_, _≤_}
+-- `name_filter::sift` meets its contract: without a fault the strings that the set holds are the named ones. Assumes nothing.
+use mathlib.Core.Path.{refl, ap, sym, _∙_}
 use native.Mathlib.Omega.{arith}
+use Rattle.string_search.specs.Search.{faultNumber}
+use Rattle.name_filter.specs.Names.{stopped}
+use Rattle.name_filter.proofs.Sifting.{sift-done, sift-short}
 use borrow.Author.Needs.{needs}
-use native.Mathlib.Omega.{arith}
 use Rattle.name_filter.proofs.sift.Statement.{statement}
 use Rattle.name_filter.proofs.sift.Tie as tie
 
-abbrev Inv-loop : tie.InvT-loop
-Inv-loop file count table query given out₀ base₀ n₀ out base n = Collected (Named file table query given) (NamedFrom file table query given base) (length out₀) n out × (base ≤ count) × Covered file count table query given base
+mark-requires : tie.Need-mark-requires
+mark-requires c κs = search needs
 
-abbrev μ-loop : tie.MeasureT-loop
-μ-loop file count table query given out₀ base₀ n₀ out base n = count - base
+enum-known-fault : tie.Need-enum-known-fault
+enum-known-fault c = search needs
 
-loop-holds : tie.Need-loop-holds Inv-loop μ-loop
-loop-holds c = (sift-start _ (c .before .before .before .before .pre .clear), omega arith, c .before .before .before .before .pre .covered)
+same-length : tie.Need-same-length
+same-length c = search needs
 
-window-requires : tie.Need-window-requires Inv-loop μ-loop
-window-requires c κs = record { ids = c .before .before .before .before .before .before .pre .ids; covered = c .before .loop .inv .2; begins = c .before .loop .inv .1; holding = holding (c .before .loop .inv .0) }
+same-length-2 : tie.Need-same-length-2
+same-length-2 c = search needs
 
-enum-known-why : tie.Need-enum-known-why Inv-loop μ-loop
-enum-known-why c = search needs
+returns : tie.Need-returns
+returns c = stopped (c .before .fault .given .0 .0) refl (sym (ap faultNumber (c .before .fault .given .1)) ∙ c .before .before .before .before .before .before .before .mark .ensures .fault)
 
-same-length : tie.Need-same-length Inv-loop μ-loop
-same-length c = omega (arith, c .before .before .before .before .before .window .kept, held-length (c .before .before .before .before .before .before .before .loop .inv .0))
+enum-told : tie.Need-enum-told
+enum-told c = search needs
 
-returns : tie.Need-returns Inv-loop μ-loop
-returns c = stop _ (c .before .before .before .before .before .before .before .loop .inv .0) (c .before .before .before .before .before .window .ensures) (c .before .why .given .0 .0) (c .before .why .given .1) _ refl _
+gather-requires : tie.Need-gather-requires
+gather-requires c κs = search needs
 
-enum-known-m : tie.Need-enum-known-m Inv-loop μ-loop
-enum-known-m c = search needs
+enum-known-n : tie.Need-enum-known-n
+enum-known-n c = search needs
 
-sub-if1 : tie.Need-sub-if1 Inv-loop μ-loop
-sub-if1 c = omega (arith, c .before .before .before .before .before .before .before .loop .inv .1)
+enum-told-2 : tie.Need-enum-told-2
+enum-told-2 c = search needs
 
-same-length-2 : tie.Need-same-length-2 Inv-loop μ-loop
-same-length-2 c = omega (arith, c .before .before .before .before .before .before .window .kept, held-length (c .before .before .before .before .before .before .before .before .loop .inv .0))
+same-length-3 : tie.Need-same-length-3
+same-length-3 c = search needs
 
-returns-2 : tie.Need-returns-2 Inv-loop μ-loop
-returns-2 c =
-    let w = c .before .before .before .before .before .before .window .ensures in
-    sift-end (turn _ (c .before .before .before .before .before .before .before .before .loop .inv .0) w _ (c .before .before .m .given .1)) _ (no-fault-yet _ (c .before .before .before .before .before .before .before .before .loop .inv .0) w _ (c .before .before .m .given .1)) (omega (arith, c .if1 .taken)) _ refl
+same-length-4 : tie.Need-same-length-4
+same-length-4 c = search needs
 
-add-base : tie.Need-add-base Inv-loop μ-loop
-add-base c = omega (arith, c .if1 .left, c .before .before .before .before .before .before .before .before .loop .inv .1)
+same-length-5 : tie.Need-same-length-5
+same-length-5 c = search needs
 
-loop-less : tie.Need-loop-less Inv-loop μ-loop
-loop-less c = omega (arith, c .if1 .left, c .before .before .before .before .before .before .before .before .loop .inv .1)
+returns-2 : tie.Need-returns-2
+returns-2 c = sift-short (c .before .before .before .before .before .before .before .before .before .before .before .before .before .mark .ensures) (ap faultNumber (c .before .before .before .before .before .before .before .enum-told .given .1)) (omega (arith, c .before .before .before .before .before .before .before .before .before .before .before .before .before .before .before .before .before .before .before .before .before .before .pre .small, c .before .before .before .before .before .before .before .before .before .before .before .before .before .mark .kept)) (c .before .before .before .before .before .before .before .before .before .before .before .before .before .before .before .before .before .before .before .before .before .before .pre .clear) (c .before .before .before .before .gather .ensures) (c .enum-told2 .given .1)
 
-loop-again : tie.Need-loop-again Inv-loop μ-loop
-loop-again c =
-    let w = c .before .before .before .before .before .before .window .ensures in
-    (turn _ (c .before .before .before .before .before .before .before .before .loop .inv .0) w _ (c .before .before .m .given .1), omega (arith, c .if1 .left, c .before .before .before .before .before .before .before .before .loop .inv .1), inl (no-fault-yet _ (c .before .before .before .before .before .before .before .before .loop .inv .0) w _ (c .before .before .m .given .1)))
+same-length-6 : tie.Need-same-length-6
+same-length-6 c = search needs
+
+same-length-7 : tie.Need-same-length-7
+same-length-7 c = search needs
+
+same-length-8 : tie.Need-same-length-8
+same-length-8 c = search needs
+
+returns-3 : tie.Need-returns-3
+returns-3 c = sift-done (c .before .before .before .before .before .before .before .before .before .before .before .before .before .before .mark .ensures) (ap faultNumber (c .before .before .before .before .before .before .before .before .enum-told .given .1)) (omega (arith, c .before .before .before .before .before .before .before .before .before .before .before .before .before .before .before .before .before .before .before .before .before .before .before .pre .small, c .before .before .before .before .before .before .before .before .before .before .before .before .before .before .mark .kept)) (c .before .before .before .before .before .before .before .before .before .before .before .before .before .before .before .before .before .before .before .before .before .before .before .pre .clear) (c .before .before .before .before .before .gather .ensures) _ (c .before .n .given .1)
 
 pub sift-spec : {M : Type 1} → statement M
 sift-spec =
     tie.close
     (tie.spec
-    Inv-loop
-    μ-loop
-    loop-holds
-    window-requires
-    enum-known-why
+    mark-requires
+    enum-known-fault
     same-length
-    returns
-    enum-known-m
-    sub-if1
     same-length-2
+    returns
+    enum-told
+    gather-requires
+    enum-known-n
+    enum-told-2
+    same-length-3
+    same-length-4
+    same-length-5
     returns-2
-    add-base
-    loop-less
-    loop-again)
+    same-length-6
+    same-length-7
+    same-length-8
+    returns-3)
