@@ -14,10 +14,10 @@ use Rattle.words.proofs.Shared.{cond-elim}
 use Rattle.dalvik.specs.Numbers.{le16, le32}
 use Rattle.tinydex.specs.declared.DexHeader.{DexHeader}
 use Rattle.class_data.specs.Codes.{successive, defined, entryFrom, mapEntry, byEntry, codesOf}
-use Rattle.class_data_parse.specs.Steps.{Left, stored}
-use Rattle.class_data_item.specs.Reads.{place}
-use Rattle.class_data_item.specs.declared.Offset.the-variants as o
-use Rattle.class_data_item.proofs.Laws.{Word}
+use Rattle.class_data.specs.Steps.{Left, stored}
+use Rattle.class_data.specs.Reads.{place}
+use Rattle.class_data.specs.declared.item.Offset.the-variants as o
+use Rattle.class_data.proofs.Laws.{Word}
 
 -- ---- the map
 module _ (s : List ℕ) (i : ℕ) where

@@ -20,14 +20,14 @@ use Rattle.dalvik.specs.CodeItem.{Code}
 use Rattle.dalvik.specs.ClassData.{classDefSize, class-data-off}
 use Rattle.dalvik.specs.MapList.{map-size, map-offset}
 use Rattle.tinydex.specs.declared.DexHeader.{DexHeader}
-use Rattle.class_data_item.specs.Walk.{Walk, behind, andOn, classDataAt}
-use Rattle.class_data_item.specs.Walk.Walk.{refused, found}
-pub use Rattle.class_data_item.proofs.Within.{CodeIn, Each}
-use Rattle.class_data_item.proofs.Within.{each-append, WithinR, class-within}
+use Rattle.class_data.specs.Walk.{Walk, behind, andOn, classDataAt}
+use Rattle.class_data.specs.Walk.Walk.{refused, found}
+pub use Rattle.class_data.proofs.Within.{CodeIn, Each}
+use Rattle.class_data.proofs.Within.{each-append, WithinR, class-within}
 use Rattle.class_data.specs.Codes.{successive, defined, mapEntry, byEntry, codesOf}
-use Rattle.class_data_parse.specs.Stored.{triplesOf, startsOf}
+use Rattle.class_data.specs.Stored.{triplesOf, startsOf}
 use Rattle.class_data.specs.Found.{fitting, codesIn, GivesCodes}
-pub use Rattle.class_data_parse.proofs.Kept.{length-triples}
+pub use Rattle.class_data.proofs.Kept.{length-triples}
 
 -- ---- all codes of a file
 abbrev EachR : List ℕ → ℕ → Walk → Type 0

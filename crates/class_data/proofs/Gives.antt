@@ -18,16 +18,15 @@ use Rattle.refusal.specs.declared.Refusal.the-variants.{FileTooLarge, LentTooSh
 use Rattle.refusal.specs.declared.Answer.{Answer}
 use Rattle.refusal.specs.declared.Answer.the-variants.{Done, Refused}
 use Rattle.tinydex.specs.declared.DexHeader.{DexHeader}
-use Rattle.class_data_item.specs.Walk.{Walk}
-use Rattle.class_data_item.specs.Walk.Walk.{refused, found}
-use Rattle.class_data_item.proofs.Within.{CodeIn, Each}
+use Rattle.class_data.specs.Walk.{Walk}
+use Rattle.class_data.specs.Walk.Walk.{refused, found}
+use Rattle.class_data.proofs.Within.{CodeIn, Each}
 use Rattle.class_data.specs.Codes.{codesOf}
-use Rattle.class_data_parse.specs.Stored.{triplesOf, startsFrom, startsOf}
+use Rattle.class_data.specs.Stored.{triplesOf, startsFrom, startsOf}
 use Rattle.class_data.specs.Found.{codesIn, GivesCodes}
-use Rattle.class_data.specs.Steps.{FitCodes}
-use Rattle.class_data_parse.specs.Steps.{stored}
-use Rattle.class_data_parse.specs.Steps.Left.{refusal, left}
-use Rattle.class_data_parse.proofs.Kept.{length-triples, left-by, stored-refused}
+use Rattle.class_data.specs.Steps.{stored, FitCodes}
+use Rattle.class_data.specs.Steps.Left.{refusal, left}
+use Rattle.class_data.proofs.Kept.{length-triples, left-by, stored-refused}
 use Rattle.class_data.proofs.Found.{codes-sound}
 
 -- ---- stores into cleared words

@@ -10,17 +10,16 @@ use borrow.Author.Tests.{le-leb, lt-leb, eq-eqb, ne-eqb}
 use Rattle.dalvik.specs.Numbers.{le32}
 use Rattle.refusal.specs.declared.Refusal.{Refusal}
 use Rattle.refusal.specs.declared.Refusal.the-variants.{TableOutside}
-use Rattle.class_data_item.specs.Walk.{Walk, andOn, classDataAt}
-use Rattle.class_data_item.specs.Walk.Walk.{refused}
-use Rattle.class_data_item.proofs.Laws.{Word}
+use Rattle.class_data.specs.Walk.{Walk, andOn, classDataAt}
+use Rattle.class_data.specs.Walk.Walk.{refused}
+use Rattle.class_data.proofs.Laws.{Word}
 use Rattle.class_data.specs.Codes.{successive, defined}
-use Rattle.class_data.specs.Steps.{DefinedOn, OneDefined}
-use Rattle.class_data_parse.specs.Steps.{ItemPre, Left, stored, seen}
-use Rattle.class_data_parse.specs.Steps.Left.{refusal, left}
-use Rattle.class_data_parse.specs.declared.Walked.{Walked}
-use Rattle.class_data_parse.specs.declared.Walked.the-variants as w
-use Rattle.class_data_parse.proofs.Kept.{stored-on, stored-none, stored-refused, refused-stored}
-use Rattle.class_data_parse.proofs.Item.{class-few}
+use Rattle.class_data.specs.Steps.{ItemPre, Left, stored, seen, DefinedOn, OneDefined}
+use Rattle.class_data.specs.Steps.Left.{refusal, left}
+use Rattle.class_data.specs.declared.parse.Walked.{Walked}
+use Rattle.class_data.specs.declared.parse.Walked.the-variants as w
+use Rattle.class_data.proofs.Kept.{stored-on, stored-none, stored-refused, refused-stored}
+use Rattle.class_data.proofs.OneItem.{class-few}
 
 -- ---- the items of a map entry
 module _ (s : List ℕ) (m i k : ℕ) (ts zs : List ℕ) (d : Left) where

@@ -1,3 +1,9 @@
+pub mod Laws
+pub mod Within
+pub mod Parts
+pub mod Kept
+pub mod Steps
+pub mod OneItem
 pub mod Entry
 pub mod Items
 pub mod Found

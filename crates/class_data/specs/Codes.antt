@@ -1,5 +1,5 @@
 -- The walk over all class data of a file, as document 01 says it under insn_locator.rs: which class data items are walked, by the map or
--- by the class definitions. The walk over one of them is class_data_item's Walk.
+-- by the class definitions. The walk over one of them is in Walk.
 -- Assumes nothing.
 use Prim.Native.Nat.{ℕ, zero, suc, _+_}
 use mathlib.Core.List.{List, []}
@@ -12,8 +12,8 @@ use Rattle.dalvik.specs.MapList.{mapItemSize, classDataType, map-type, map-size
 use Rattle.dalvik.specs.ClassData.{classDefSize, class-data-off}
 use Rattle.refusal.specs.declared.Refusal.the-variants.{TableOutside}
 use Rattle.tinydex.specs.declared.DexHeader.{DexHeader}
-use Rattle.class_data_item.specs.Walk.{Walk, andOn, classDataAt}
-use Rattle.class_data_item.specs.Walk.Walk.{refused, found}
+use Rattle.class_data.specs.Walk.{Walk, andOn, classDataAt}
+use Rattle.class_data.specs.Walk.Walk.{refused, found}
 
 -- n class data items one behind another
 unfoldable pub successive : ℕ → List ℕ → ℕ → ℕ → Walk

@@ -13,10 +13,10 @@ use Rattle.refusal.specs.declared.Refusal.the-variants.{FileTooLarge, LentTooSh
 use Rattle.refusal.specs.declared.Answer.{Answer}
 use Rattle.refusal.specs.declared.Answer.the-variants.{Done, Refused}
 use Rattle.tinydex.specs.declared.DexHeader.{DexHeader}
-use Rattle.class_data_item.specs.Walk.{Walk}
-use Rattle.class_data_item.specs.Walk.Walk.{refused, found}
+use Rattle.class_data.specs.Walk.{Walk}
+use Rattle.class_data.specs.Walk.Walk.{refused, found}
 use Rattle.class_data.specs.Codes.{codesOf}
-use Rattle.class_data_parse.specs.Stored.{triplesOf, startsOf}
+use Rattle.class_data.specs.Stored.{triplesOf, startsOf}
 
 -- last 4 for the triples: the whole walk comes first
 abbrev pub fitting : ℕ → Walk → Walk

@@ -1,17 +1,19 @@
 // The codes of a file (insn_locator.rs: `_build_map_bymap`, `_build_map_bydef`): the class data items are found by the map, else by the
 // class definitions, and walked.
+mod item; // item.rt: one class data item as it is read
+mod parse; // parse.rt: one class data item walked
+
 ghost use mathlib.Core.Path.{_≡_};
 ghost use Prim.Native.Nat.{_+_, _*_, _<_, _≤_, _^_};
 ghost use lib.ListN.{length};
 ghost use Rattle.dalvik.specs.Numbers.{le32};
 ghost use Rattle.refusal.specs.Refusals.{largestFile};
-ghost use Rattle.class_data_item.specs.Reads.{place};
-ghost use Rattle.class_data_parse.specs.Steps.{stored, seen};
+ghost use Rattle.class_data.specs.Reads.{place};
 ghost use Rattle.class_data.specs.Codes.{successive, defined, mapEntry, codesOf};
 ghost use Rattle.class_data.specs.Found.{codesIn, GivesCodes};
-ghost use Rattle.class_data.specs.Steps.{EntryPre, DefPre, OneDefined, FitCodes};
-use class_data_item::Offset;
-use class_data_parse::Walked;
+ghost use Rattle.class_data.specs.Steps.{stored, seen, EntryPre, DefPre, OneDefined, FitCodes};
+use item::Offset;
+use parse::Walked;
 use refusal::Answer;
 use refusal::Refusal;
 use structs::Read16;
@@ -75,7 +77,7 @@ fn build_map_bymap(
     let mut at = off as usize;
     let mut count: usize = 0;
     while 0 < left {
-        match class_data_parse::class_data_parse(buf, methods, at, count, triples, starts) {
+        match parse::class_data_parse(buf, methods, at, count, triples, starts) {
             Walked::Found { next, count: found } => {
                 at = next;
                 count = found;
@@ -113,7 +115,7 @@ fn class_def(
             count: count,
         };
     }
-    class_data_parse::class_data_parse(buf, methods, off as usize, count, triples, starts)
+    parse::class_data_parse(buf, methods, off as usize, count, triples, starts)
 }
 
 // The class data of all class definitions.

@@ -19,9 +19,9 @@ use Rattle.refusal.specs.Refusals.{refusalNumber}
 use Rattle.refusal.specs.declared.Refusal.{Refusal}
 use Rattle.refusal.specs.declared.Refusal.the-variants.{LentTooShort}
 use Rattle.dalvik.specs.CodeItem.{Code}
-use Rattle.class_data_item.specs.Walk.Walk.{found}
+use Rattle.class_data.specs.Walk.Walk.{found}
 use Rattle.class_data.proofs.Found.{length-triples}
-use Rattle.class_data_parse.specs.Stored.{firstBucket, lastBucket, startsOf}
+use Rattle.class_data.specs.Stored.{firstBucket, lastBucket, startsOf}
 use Rattle.code_table.specs.Slots.{baseOf, topOf, tableOf}
 use Rattle.code_table.specs.Build.{Room, Build, noBuild, wholeBuild, builtFrom, mostShares}
 use Rattle.code_table.specs.Answer.{roomOf, GivesBuild}

@@ -20,7 +20,7 @@ use Rattle.words.specs.Padded.{zeros, padded, stretch}
 use Rattle.words.proofs.Padded.{padded-none, padded-at, padded-push, padded-zeros, length-stretch, stretch-padded}
 use Rattle.words.proofs.Shared.{cond-elim}
 use Rattle.dalvik.specs.CodeItem.{Code}
-use Rattle.class_data_parse.specs.Stored.{firstBucket, lastBucket, triplesOf}
+use Rattle.class_data.specs.Stored.{firstBucket, lastBucket, triplesOf}
 use Rattle.code_table.specs.Slots.{lowest, baseOf, topOf, shared, joined, joinedSlot, Table, place, tableFrom, tableOf}
 use Rattle.code_table.specs.Steps.{noCode, Triples, room, Words, Holds, After, Placeable, PlacedIn}
 use Rattle.code_table.specs.declared.Placed.{Placed}

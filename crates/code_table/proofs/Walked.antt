@@ -19,11 +19,11 @@ use Rattle.refusal.specs.declared.Refusal.{Refusal}
 use Rattle.refusal.specs.declared.Refusal.the-variants.{FileTooLarge, LentTooShort}
 use Rattle.tinydex.specs.declared.DexHeader.{DexHeader}
 use Rattle.dalvik.specs.CodeItem.{Code}
-use Rattle.class_data_item.specs.Walk.{Walk}
-use Rattle.class_data_item.specs.Walk.Walk.{refused, found}
+use Rattle.class_data.specs.Walk.{Walk}
+use Rattle.class_data.specs.Walk.Walk.{refused, found}
 use Rattle.class_data.specs.Codes.{codesOf}
 use Rattle.class_data.specs.Found.{fitting, codesIn}
-use Rattle.class_data_parse.specs.Stored.{triplesOf, startsOf}
+use Rattle.class_data.specs.Stored.{triplesOf, startsOf}
 use Rattle.class_data.proofs.Found.{CodeIn, Each, codes-sound, Taken}
 use Rattle.code_table.specs.Slots.{tableOf, baseOf, topOf}
 use Rattle.code_table.specs.Build.{Room, Build, noBuild, builtFrom, buildOut, wholeBuild, mostShares}

@@ -9,10 +9,10 @@ use lib.Dec.{leb}
 use Rattle.refusal.specs.Refusals.{refusalNumber, tooLarge}
 use Rattle.tinydex.specs.declared.DexHeader.{DexHeader}
 use Rattle.dalvik.specs.CodeItem.{Code}
-use Rattle.class_data_item.specs.Walk.{Walk}
-use Rattle.class_data_item.specs.Walk.Walk.{refused, found}
+use Rattle.class_data.specs.Walk.{Walk}
+use Rattle.class_data.specs.Walk.Walk.{refused, found}
 use Rattle.class_data.specs.Codes.{codesOf}
-use Rattle.class_data_parse.specs.Stored.{triplesOf, startsOf}
+use Rattle.class_data.specs.Stored.{triplesOf, startsOf}
 use Rattle.code_table.specs.Slots.{baseOf, topOf, tableOf}
 
 -- how many words are lent

@@ -8,7 +8,7 @@ use lib.ListN.{length, getD, replicate}
 use lib.Dec.{ltb, eqb}
 use Rattle.words.specs.Padded.{stretch}
 use Rattle.dalvik.specs.CodeItem.{Code}
-use Rattle.class_data_parse.specs.Stored.{firstBucket, lastBucket}
+use Rattle.class_data.specs.Stored.{firstBucket, lastBucket}
 
 abbrev pub lowest : ℕ → List Code → ℕ
 lowest b [] = b

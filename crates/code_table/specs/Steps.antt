@@ -9,8 +9,8 @@ use mathlib.Core.Logic.{_⊎_}
 use lib.ListN.{length, getD}
 use Rattle.words.specs.Padded.{zeros, padded}
 use Rattle.dalvik.specs.CodeItem.{Code}
-use Rattle.class_data_item.specs.Walk.Walk.{found}
-use Rattle.class_data_parse.specs.Stored.{firstBucket, lastBucket, triplesOf, startsOf}
+use Rattle.class_data.specs.Walk.Walk.{found}
+use Rattle.class_data.specs.Stored.{firstBucket, lastBucket, triplesOf, startsOf}
 use Rattle.code_table.specs.Slots.{baseOf, topOf, Table, place, tableOf}
 use Rattle.code_table.specs.Build.{mostShares, builtFrom}
 use Rattle.code_table.specs.Answer.{roomOf, GivesBuild}

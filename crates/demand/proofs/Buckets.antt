@@ -7,7 +7,7 @@ use mathlib.Core.Path.{_≡_, refl}
 use mathlib.Core.Logic.{_⊎_, inl, inr, ⊎-elim}
 use mathlib.Core.List.{List, [], _∷_, List·Memᴰ, List·Memᴰ·head, List·Memᴰ·tail, List·Memᴰ·not-nil, List·Memᴰ·cases-cons}
 use Rattle.dalvik.specs.CodeItem.{Code, start, stop}
-use Rattle.class_data_parse.specs.Stored.{firstBucket, lastBucket}
+use Rattle.class_data.specs.Stored.{firstBucket, lastBucket}
 use Rattle.code_table.specs.Slots.{lowest, baseOf, topOf}
 use Rattle.demand.specs.Supposed.{CoincideOrApart, BlockOf}
 use Rattle.demand.specs.Supposed.CoincideOrApart.{coincide, before, behind}

@@ -24,9 +24,9 @@ use Rattle.dalvik.specs.ClassData.CodesOf.{without-map}
 use Rattle.dalvik.specs.Instructions.{Kind, Instruction, Instructions, Payloads}
 use Rattle.dalvik.specs.Instructions.Kind.{strings}
 use Rattle.leb128.specs.Leb.{uleb, ulebFast, lenOf, ulebLen}
-use Rattle.class_data_item.specs.Walk.{skipped, methodsFrom, classDataAt}
+use Rattle.class_data.specs.Walk.{skipped, twoAt, sizesAt, methodsAt, methodsFrom, classDataAt}
 use Rattle.class_data.specs.Codes.{successive, defined, entryFrom, mapEntry, codesOf}
-use Rattle.class_data_parse.specs.Stored.{triplesOf, startsOf}
+use Rattle.class_data.specs.Stored.{triplesOf, startsOf}
 use Rattle.code_table.specs.Slots.{joined, joinedSlot, place, tableOf}
 use Rattle.code_table.specs.Build.{Build, buildOut}
 use Rattle.index_width.specs.Width.{widthOf}
@@ -38,9 +38,8 @@ use Rattle.opcodes.specs.Length.{unitsOf}
 use Rattle.words.specs.Padded.{stretch}
 use Rattle.demand.specs.Supposed.{Distinct, ArrayOf, CoincideOrApart, PublishedCode, Supposed}
 use Rattle.demand.specs.Supposed.CoincideOrApart.{coincide}
-use Rattle.demand.specs.Statement.{Lent, builtOf, scannedOf, locatedOf, listingOf, FindsAll}
+use Rattle.demand.specs.Statement.{Lent, Suffices, builtOf, scannedOf, locatedOf, listingOf, FindsAll}
 use Rattle.demand.proofs.Demand.{demand3}
-use Rattle.demand.proofs.Enough.{enough, enough-suffices}
 
 -- ---- a file's parts, told by their bytes
 abbrev pub allBytes : List ℕ → Bool
@@ -159,10 +158,11 @@ supposed = record {
   apart = λ c d m k. coincide (ap (λ (z : Code). z .off) (same c d m k)) (ap (λ (z : Code). z .units) (same c d m k));
 }
 
--- so demand 3 holds of it, in buffers that suffice for any file of 80 bytes with one method id
-pub finds : FindsAll file (code ∷ []) strings (5 ∷ []) (enough (length file) 1) (builtOf file header (enough (length file) 1))
+-- so demand 3 holds of it, in buffers that suffice
+pub finds : (kind : Kind) (wanted : List ℕ) (L : Lent) → Suffices file 1 (code ∷ []) kind wanted L
+    → FindsAll file (code ∷ []) kind wanted L (builtOf file header L)
 unfolding header
-finds = demand3 file header (code ∷ []) supposed strings (5 ∷ []) (enough (length file) 1) (enough-suffices supposed strings (5 ∷ []))
+finds = demand3 file header (code ∷ []) supposed
 
 -- ---- the outcomes, computed, in four words of each
 four : Lent
@@ -182,7 +182,7 @@ built : Build
 built = record { number = 0; from = 64; to = 80; starts = 64 ∷ []; triples = 4 ∷ 4 ∷ 0 ∷ []; slots = 1 ∷ []; shares = [] }
 
 build-computed : builtOf file header four ≡ built
-unfolding file header four built buildOut codesOf mapEntry entryFrom defined successive classDataAt methodsFrom skipped ulebFast uleb ulebLen lenOf le16 le32 triplesOf startsOf tableOf place joined joinedSlot stretch
+unfolding file header four built buildOut codesOf mapEntry entryFrom defined successive classDataAt methodsAt sizesAt twoAt methodsFrom skipped ulebFast uleb ulebLen lenOf le16 le32 triplesOf startsOf tableOf place joined joinedSlot stretch
 build-computed = refl
 
 -- hits=1, off=64 idx=5

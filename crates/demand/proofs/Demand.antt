@@ -15,7 +15,7 @@ use Rattle.tinydex.specs.declared.DexHeader.{DexHeader}
 use Rattle.dalvik.specs.CodeItem.{Code}
 use Rattle.dalvik.specs.Instructions.{Kind}
 use Rattle.dalvik.specs.Instructions.Kind.{strings, types, fields, methods}
-use Rattle.class_data_parse.specs.Stored.{startsOf}
+use Rattle.class_data.specs.Stored.{startsOf}
 use Rattle.code_table.specs.Slots.{baseOf, topOf, tableOf}
 use Rattle.code_table.specs.Build.{Build, mostShares, wholeBuild, buildOut}
 use Rattle.index_width.specs.Kinds.{kindNumber, kindOf}
@@ -35,7 +35,7 @@ use Rattle.demand.proofs.Owners.{tablesFor, slotOf, Owner, owner}
 use Rattle.demand.proofs.Entries.{entries-rise, answers}
 use Rattle.demand.proofs.Confirmed.{lists-methods, Entered, entered, Landed, landed, which}
 
-kind-read : (kind : Kind) → kindOf (kindNumber kind) ≡ some kind
+pub kind-read : (kind : Kind) → kindOf (kindNumber kind) ≡ some kind
 unfolding kindOf
 kind-read strings = refl
 kind-read types = refl

@@ -10,9 +10,9 @@ use Rattle.dalvik.specs.Numbers.{le16, le32}
 use Rattle.dalvik.specs.CodeItem.{Code}
 use Rattle.opcodes.specs.Length.{unitsOf}
 use Rattle.leb128.specs.Leb.{uleb, ulebFast, lenOf, ulebLen}
-use Rattle.class_data_item.specs.Walk.{skipped, methodsFrom, classDataAt}
+use Rattle.class_data.specs.Walk.{skipped, twoAt, sizesAt, methodsAt, methodsFrom, classDataAt}
 use Rattle.class_data.specs.Codes.{successive, defined, entryFrom, mapEntry, codesOf}
-use Rattle.class_data_parse.specs.Stored.{startsOf}
+use Rattle.class_data.specs.Stored.{startsOf}
 use Rattle.code_table.specs.Slots.{joined, joinedSlot, place, tableOf}
 use Rattle.code_table.specs.Build.{Room, buildOut}
 use Rattle.index_width.specs.Kinds.{kindOf}
@@ -41,7 +41,7 @@ beyond = refl
 
 -- the last block not inside: cut after the array, the build succeeds and the scan refuses with 12
 cut-build : buildOut (take 76 file) header room .number ≡ 0
-unfolding file header room buildOut codesOf mapEntry entryFrom defined successive classDataAt methodsFrom skipped ulebFast uleb ulebLen lenOf le16 le32 tableOf place joined joinedSlot stretch
+unfolding file header room buildOut codesOf mapEntry entryFrom defined successive classDataAt methodsAt sizesAt twoAt methodsFrom skipped ulebFast uleb ulebLen lenOf le16 le32 tableOf place joined joinedSlot stretch
 cut-build = refl
 
 cut-scan : scanOut (take 76 file) 1 (5 ∷ []) 64 80 9 9 .number ≡ 12

@@ -12,7 +12,7 @@ use lib.ListN.{length, getD, length-append, replicate}
 use borrow.Author.Tests.{eqb-true, eqb-false, ne-eqb}
 use Rattle.words.proofs.Shared.{case}
 use Rattle.dalvik.specs.CodeItem.{Code}
-use Rattle.class_data_parse.specs.Stored.{firstBucket}
+use Rattle.class_data.specs.Stored.{firstBucket}
 use Rattle.code_table.specs.Slots.{shared, joined, Table, place, tableFrom, tableOf, baseOf, topOf}
 use Rattle.demand.specs.Supposed.{Distinct, methodsOf}
 use Rattle.demand.proofs.Members.{method-mem}

@@ -17,8 +17,8 @@ use Rattle.dalvik.specs.ClassData.Defined.{no-data, some-data}
 use Rattle.dalvik.specs.ClassData.CodesOf.{by-map, without-entry, without-map}
 use Rattle.leb128.proofs.Published.{ends-behind, ends-inside, fast-published, len-published}
 use Rattle.tinydex.specs.declared.DexHeader.{DexHeader}
-use Rattle.class_data_item.specs.Walk.{Walk, skipped, word, mostMethods, codeAt, methodsFrom, classDataAt}
-use Rattle.class_data_item.specs.Walk.Walk.{found}
+use Rattle.class_data.specs.Walk.{Walk, skipped, word, twoAt, sizesAt, methodsAt, mostMethods, codeAt, methodsFrom, classDataAt}
+use Rattle.class_data.specs.Walk.Walk.{found}
 use Rattle.class_data.specs.Codes.{successive, defined, entryFrom, mapEntry, codesOf}
 
 -- the offset behind a number, as the walk counts it
@@ -83,7 +83,7 @@ module _ (s : List ℕ) (B : Bytes s) (methods : ℕ) where
   -- ---- class data items
   module _ (small : length s ≤ 16777216) where
     class-data-found : {i e : ℕ} {cs : List Code} → ClassData s i cs e → AllTested s methods cs → classDataAt s methods i ≡ found cs e
-    unfolding classDataAt
+    unfolding classDataAt methodsAt sizesAt twoAt
     class-data-found {i} {e} {cs} D t =
         rw (
           fast-published B (D .size-statics),

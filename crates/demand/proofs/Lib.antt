@@ -17,7 +17,6 @@ pub mod Owners
 pub mod Entries
 pub mod Confirmed
 pub mod Demand
-pub mod Enough
 pub mod Case
 pub mod SharedCase
 pub mod Edges

@@ -14,7 +14,7 @@ use Rattle.words.specs.Padded.{zeros, padded}
 use Rattle.words.proofs.Padded.{padded-at}
 use Rattle.words.proofs.Shared.{case}
 use Rattle.dalvik.specs.CodeItem.{Code, start}
-use Rattle.class_data_parse.specs.Stored.{startsOf}
+use Rattle.class_data.specs.Stored.{startsOf}
 use Rattle.code_table.specs.Slots.{baseOf, tableOf}
 use Rattle.insn_locator.specs.Locate.{Tables, slotAt, firstOf, lands}
 use Rattle.insn_locator.specs.Listing.{listed}

@@ -22,9 +22,9 @@ use Rattle.dalvik.specs.Instructions.{Kind, Instructions, Payloads}
 use Rattle.dalvik.specs.Instructions.Kind.{strings}
 use Rattle.dalvik.specs.Instructions.Payload.{packed-switch}
 use Rattle.leb128.specs.Leb.{uleb, ulebFast, lenOf, ulebLen}
-use Rattle.class_data_item.specs.Walk.{skipped, methodsFrom, classDataAt}
+use Rattle.class_data.specs.Walk.{skipped, twoAt, sizesAt, methodsAt, methodsFrom, classDataAt}
 use Rattle.class_data.specs.Codes.{successive, defined, entryFrom, mapEntry, codesOf}
-use Rattle.class_data_parse.specs.Stored.{triplesOf, startsOf}
+use Rattle.class_data.specs.Stored.{triplesOf, startsOf}
 use Rattle.code_table.specs.Slots.{joined, joinedSlot, place, tableOf}
 use Rattle.code_table.specs.Build.{Build, buildOut}
 use Rattle.index_width.specs.Width.{widthOf}
@@ -176,7 +176,7 @@ built = record {
 }
 
 build-computed : builtOf file header nine ≡ built
-unfolding file header nine built buildOut codesOf mapEntry entryFrom defined successive classDataAt methodsFrom skipped ulebFast uleb ulebLen lenOf le16 le32
+unfolding file header nine built buildOut codesOf mapEntry entryFrom defined successive classDataAt methodsAt sizesAt twoAt methodsFrom skipped ulebFast uleb ulebLen lenOf le16 le32
     triplesOf startsOf tableOf place joined joinedSlot stretch
 build-computed = refl
 

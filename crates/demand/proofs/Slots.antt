@@ -12,7 +12,7 @@ use borrow.Author.Tests.{eq-eqb, ne-eqb}
 use Rattle.words.specs.Padded.{stretch}
 use Rattle.words.proofs.Padded.{length-stretch}
 use Rattle.dalvik.specs.CodeItem.{Code, start}
-use Rattle.class_data_parse.specs.Stored.{firstBucket, lastBucket}
+use Rattle.class_data.specs.Stored.{firstBucket, lastBucket}
 use Rattle.code_table.specs.Slots.{baseOf, topOf, Table, joined, joinedSlot, place, tableFrom, tableOf}
 use Rattle.demand.specs.Supposed.{ArrayOf, Supposed}
 use Rattle.demand.specs.Statement.{sharing, arranged}

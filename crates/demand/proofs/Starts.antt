@@ -7,7 +7,7 @@ use mathlib.Core.List.{List, [], _∷_, List·Memᴰ, List·Memᴰ·head, List·
 use lib.ListN.{length, getD, set, length-set, replicate, length-replicate}
 use lib.Seq.{getD-set-same, getD-set-other}
 use Rattle.dalvik.specs.CodeItem.{Code, start}
-use Rattle.class_data_parse.specs.Stored.{startsFrom, startsOf}
+use Rattle.class_data.specs.Stored.{startsFrom, startsOf}
 use Rattle.demand.specs.Supposed.{Distinct, methodsOf}
 
 starts-length : (ws : List ℕ) (cs : List Code) → length (startsFrom ws cs) ≡ length ws

@@ -8,7 +8,7 @@ use mathlib.Core.List.{List, List·Memᴰ}
 use lib.ListN.{length}
 use Rattle.dalvik.specs.CodeItem.{Code, start}
 use Rattle.dalvik.specs.Instructions.{InstructionOf}
-use Rattle.class_data_parse.specs.Stored.{lastBucket}
+use Rattle.class_data.specs.Stored.{lastBucket}
 use Rattle.code_table.specs.Slots.{topOf}
 use Rattle.demand.specs.Supposed.{Supposed}
 use Rattle.demand.proofs.Steps.{steps-le, steps-even}

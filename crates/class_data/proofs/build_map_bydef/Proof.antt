@@ -6,7 +6,7 @@ use Rattle.class_data.proofs.build_map_bydef.Statement.{statement}
 use Rattle.class_data.proofs.build_map_bydef.Tie as tie
 use mathlib.Core.Path.{refl}
 use Rattle.class_data.proofs.Items.{ByDef, def-told, def-refused, bydef-again, defined-no, defined-end}
-use Rattle.class_data_parse.proofs.Kept.{found-seen, refused-seen}
+use Rattle.class_data.proofs.Kept.{found-seen, refused-seen}
 
 abbrev Inv-loop : tie.InvT-loop
 Inv-loop buf methods triples₀ starts₀ at₀ left₀ count₀ triples starts at left count = ByDef buf methods left₀ at₀ triples₀ starts₀ triples starts at left count

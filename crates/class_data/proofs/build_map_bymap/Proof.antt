@@ -6,10 +6,9 @@ use Rattle.class_data.proofs.build_map_bymap.Statement.{statement}
 use Rattle.class_data.proofs.build_map_bymap.Tie as tie
 use Prim.Native.Nat.{_+_}
 use Rattle.dalvik.specs.Numbers.{le32}
-use mathlib.Core.Path.{refl, _∙_}
-use Rattle.class_data_parse.proofs.Item.{item-left}
+use mathlib.Core.Path.{refl}
 use Rattle.class_data.proofs.Items.{ByMap, by-words, bymap-few, bymap-again, successive-no, successive-end}
-use Rattle.class_data_parse.proofs.Kept.{seen-found, seen-refused, found-seen, refused-seen}
+use Rattle.class_data.proofs.Kept.{seen-found, seen-refused, found-seen, refused-seen}
 
 abbrev Inv-loop : tie.InvT-loop
 Inv-loop buf methods entry triples₀ starts₀ size off left₀ at₀ count₀ triples starts left at count = ByMap buf methods (le32 buf (entry + 4)) (le32 buf (entry + 8)) triples₀ starts₀ triples starts left at count
@@ -36,7 +35,7 @@ loop-holds : tie.Need-loop-holds Inv-loop μ-loop
 loop-holds c = record { rest = by-words _ _ _ _ _ _ _ _ _ (c .before .word-inside .ensures) (c .word-inside2 .ensures); most = omega arith; few = omega arith; long = refl; wide = refl }
 
 class-data-parse-requires : tie.Need-class-data-parse-requires Inv-loop μ-loop
-class-data-parse-requires c κs = search needs
+class-data-parse-requires c κs = bymap-few _ _ _ _ _ _ _ _ _ _ _ (c .before .before .before .loop .inv) (c .before .before .before .before .before .before .before .before .before .pre .small) (omega arith)
 
 enum-known-next : tie.Need-enum-known-next Inv-loop μ-loop
 enum-known-next c = search needs
@@ -48,7 +47,7 @@ loop-less : tie.Need-loop-less Inv-loop μ-loop
 loop-less c = search needs
 
 loop-again : tie.Need-loop-again Inv-loop μ-loop
-loop-again c = bymap-again _ _ _ _ _ _ _ _ _ _ _ (c .before .before .before .before .before .before .before .before .before .before .before .loop .inv) (c .before .before .before .before .before .before .before .before .before .before .before .before .before .before .before .before .before .pre .small) (c .before .before .before .before .before .before .before .before .before .before .loop-test .taken) _ _ _ _ (seen-found _ _ _ _ (c .before .before .before .before .before .before .before .class-data-parse .ensures ∙ item-left _ _ _ _ _ _ (bymap-few _ _ _ _ _ _ _ _ _ _ _ (c .before .before .before .before .before .before .before .before .before .before .before .loop .inv) (c .before .before .before .before .before .before .before .before .before .before .before .before .before .before .before .before .before .pre .small) (omega arith))) _ _ (c .before .next .given .1)) (c .before .before .before .before .starts .given) (c .before .before .before .before .before .before .triples .given)
+loop-again c = bymap-again _ _ _ _ _ _ _ _ _ _ _ (c .before .before .before .before .before .before .before .before .before .before .before .loop .inv) (c .before .before .before .before .before .before .before .before .before .before .before .before .before .before .before .before .before .pre .small) (c .before .before .before .before .before .before .before .before .before .before .loop-test .taken) _ _ _ _ (seen-found _ _ _ _ (c .before .before .before .before .before .before .before .class-data-parse .ensures) _ _ (c .before .next .given .1)) (c .before .before .before .before .starts .given) (c .before .before .before .before .before .before .triples .given)
 
 enum-known-r : tie.Need-enum-known-r Inv-loop μ-loop
 enum-known-r c = search needs
@@ -60,7 +59,7 @@ same-length-2 : tie.Need-same-length-2 Inv-loop μ-loop
 same-length-2 c = search needs
 
 returns : tie.Need-returns Inv-loop μ-loop
-returns c = refused-seen _ _ _ _ (successive-no _ _ _ _ _ _ _ _ _ (omega arith) (seen-refused _ _ _ _ (c .before .before .before .before .before .before .before .class-data-parse .ensures ∙ item-left _ _ _ _ _ _ (bymap-few _ _ _ _ _ _ _ _ _ _ _ (c .before .before .before .before .before .before .before .before .before .before .before .loop .inv) (c .before .before .before .before .before .before .before .before .before .before .before .before .before .before .before .before .before .pre .small) (omega arith))) _ (c .before .r .given .1)) (c .before .before .before .before .before .before .before .before .before .before .before .loop .inv .rest))
+returns c = refused-seen _ _ _ _ (successive-no _ _ _ _ _ _ _ _ _ (omega arith) (seen-refused _ _ _ _ (c .before .before .before .before .before .before .before .class-data-parse .ensures) _ (c .before .r .given .1)) (c .before .before .before .before .before .before .before .before .before .before .before .loop .inv .rest))
 
 same-length-3 : tie.Need-same-length-3 Inv-loop μ-loop
 same-length-3 c = search needs

@@ -5,10 +5,8 @@ use Rattle.class_data.proofs.class_def.Statement.{statement}
 use Rattle.class_data.proofs.class_def.Tie as tie
 use native.Mathlib.Omega.{arith}
 use Rattle.words.proofs.Shared.{met}
-use mathlib.Core.Path.{_∙_}
-use Rattle.class_data_parse.proofs.Item.{item-left}
 use Rattle.class_data.proofs.Items.{def-outside, def-none, def-some}
-use Rattle.class_data_item.proofs.Laws.{read32-value, read32-outside}
+use Rattle.class_data.proofs.Laws.{read32-value, read32-outside}
 
 add-read-u32 : tie.Need-add-read-u32
 add-read-u32 c = search needs
@@ -32,7 +30,7 @@ cast-class-data-parse : tie.Need-cast-class-data-parse
 cast-class-data-parse c = search needs
 
 class-data-parse-requires : tie.Need-class-data-parse-requires
-class-data-parse-requires c κs = search needs
+class-data-parse-requires c κs = record { small = c .before .before .before .before .before .before .before .before .before .before .pre .small; few = c .before .before .before .before .before .before .before .before .before .before .pre .few }
 
 same-length : tie.Need-same-length
 same-length c = search needs
@@ -41,7 +39,7 @@ same-length-2 : tie.Need-same-length-2
 same-length-2 c = search needs
 
 returns-3 : tie.Need-returns-3
-returns-3 c = def-some _ _ _ _ _ _ _ (read32-value _ _ _ (met (c .before .before .before .before .before .before .before .before .before .off .given .1) (c .before .before .before .before .before .before .before .before .before .before .before .read-u32 .ensures))) _ _ _ (c .before .before .before .before .before .before .before .if1 .left) (c .before .before .before .before .class-data-parse .ensures ∙ item-left _ _ _ _ _ _ (record { small = c .before .before .before .before .before .before .before .before .before .before .before .before .before .before .before .pre .small; few = omega (arith, c .before .before .before .before .before .before .before .before .before .before .before .before .before .before .before .pre .few) }))
+returns-3 c = def-some _ _ _ _ _ _ _ (read32-value _ _ _ (met (c .before .before .before .before .before .before .before .before .before .off .given .1) (c .before .before .before .before .before .before .before .before .before .before .before .read-u32 .ensures))) _ _ _ (c .before .before .before .before .before .before .before .if1 .left) (c .before .before .before .before .class-data-parse .ensures)
 
 pub class-def-spec : {M : Type 1} → statement M
 class-def-spec =

@@ -3,7 +3,7 @@
 use borrow.Author.Needs.{needs}
 use Rattle.class_data.proofs.walk.Statement.{statement}
 use Rattle.class_data.proofs.walk.Tie as tie
-use Rattle.class_data_item.proofs.Laws.{place-some, place-none}
+use Rattle.class_data.proofs.Laws.{place-some, place-none}
 use Rattle.class_data.proofs.Entry.{entry-in, by-map, by-def}
 
 map-entry-requires : tie.Need-map-entry-requires

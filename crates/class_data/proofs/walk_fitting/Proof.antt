@@ -8,7 +8,7 @@ use mathlib.Core.Path.{refl}
 use lib.ListN.{length}
 use borrow.Author.Tests.{ltb-false}
 use Rattle.class_data.proofs.Gives.{codes-large, codes-short, codes-over, codes-no, fit-all, fit-refused, third-over, third-holds}
-use Rattle.class_data_parse.proofs.Kept.{seen-found, seen-refused}
+use Rattle.class_data.proofs.Kept.{seen-found, seen-refused}
 
 too-large-requires : tie.Need-too-large-requires
 too-large-requires c κs = search needs

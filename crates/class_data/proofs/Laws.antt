@@ -1,0 +1,236 @@
+-- One law for each way out of the definitions of the walk over one class data item: what a read has shown decides the test, and the rest of the walk is the same.
+-- Assumes nothing.
+use Prim.Native.Nat.{ℕ, zero, suc, _+_, _*_, _-_, _%_, _<_, _≤_}
+use native.Mathlib.Omega.{arith}
+use native.Mathlib.Numerals.{sub-one}
+use mathlib.Core.Path.{_≡_, refl, sym, subst, _∙_}
+use mathlib.Core.Bool.{Bool, true, false, cond, _&&_}
+use mathlib.Core.List.{List}
+use mathlib.Core.Option.{Option, none, some}
+use lib.ListN.{length}
+use lib.Dec.{ltb, leb}
+use borrow.Author.Tests.{lt-ltb, le-ltb, le-leb, lt-leb, ltb-true, leb-true, leb-false}
+use Rattle.words.proofs.Shared.{and-left, and-right}
+use Rattle.dalvik.specs.Numbers.{le16, le32}
+use Rattle.structs.specs.Reads.{read16, read32}
+use Rattle.structs.specs.declared.Read16.the-variants as v16
+use Rattle.structs.specs.declared.Read32.the-variants as v32
+use Rattle.structs.specs.declared.Read16.{Read16}
+use Rattle.structs.specs.declared.Read32.{Read32}
+use Rattle.leb128.specs.Leb.{ulebFast, ulebLen}
+use Rattle.leb128.specs.declared.Uleb.the-variants as u
+use Rattle.leb128.specs.declared.Len.the-variants as l
+use Rattle.leb128.proofs.Laws.{fast-keeps}
+use Rattle.refusal.specs.declared.Refusal.{Refusal}
+use Rattle.refusal.specs.declared.Refusal.the-variants.{NumberOutside, MethodIndex}
+use Rattle.dalvik.specs.CodeItem.{insns-size}
+use Rattle.class_data.specs.Walk.{skipped, twoAt, sizesAt, codeInside, methodsFrom}
+use Rattle.class_data.specs.Walk.Walk.{refused}
+use Rattle.class_data.specs.Reads.{place, HeadAt, HeadRead, itemAt}
+use Rattle.class_data.specs.declared.item.Offset.{Offset}
+use Rattle.class_data.specs.declared.item.Offset.the-variants as o
+use Rattle.class_data.specs.declared.item.Two.the-variants as n
+use Rattle.class_data.specs.declared.item.Sizes.the-variants as z
+use Rattle.class_data.specs.declared.item.Head.{Head}
+use Rattle.class_data.specs.declared.item.Head.the-variants as h
+use Rattle.class_data.specs.declared.item.Item.{Item}
+use Rattle.class_data.specs.declared.item.Item.the-variants as t
+
+-- ---- a read taken apart
+value16 : (b : Bool) (v x : ℕ) → v16.Value v ≡ cond b (v16.Value x) v16.Outside → (b ≡ true) × (v ≡ x)
+value16 true v x e = (refl, cc)
+value16 false v x e = absurd (let q : _≡_ {A = ℕ} 0 1 = cc in omega arith)
+
+outside16 : (b : Bool) (x : ℕ) → v16.Outside ≡ cond b (v16.Value x) v16.Outside → b ≡ false
+outside16 true x e = absurd (let q : _≡_ {A = ℕ} 0 1 = cc in omega arith)
+outside16 false x e = refl
+
+value32 : (b : Bool) (v x : ℕ) → v32.Value v ≡ cond b (v32.Value x) v32.Outside → (b ≡ true) × (v ≡ x)
+value32 true v x e = (refl, cc)
+value32 false v x e = absurd (let q : _≡_ {A = ℕ} 0 1 = cc in omega arith)
+
+outside32 : (b : Bool) (x : ℕ) → v32.Outside ≡ cond b (v32.Value x) v32.Outside → b ≡ false
+outside32 true x e = absurd (let q : _≡_ {A = ℕ} 0 1 = cc in omega arith)
+outside32 false x e = refl
+
+pub record Word (s : List ℕ) (i v n : ℕ) (x : ℕ) : Type 0 where
+  pub inside : i + n ≤ length s
+  pub is : v ≡ x
+
+module _ (s : List ℕ) (i : ℕ) where
+  pub read16-value : (v : ℕ) → v16.Value v ≡ read16 s i → Word s i v 2 (le16 s i)
+  unfolding read16
+  read16-value v e =
+      let q = value16 (leb (i + 2) (length s)) v (le16 s i) e in
+      record { inside = leb-true _ _ (q .0); is = q .1 }
+
+  pub read16-outside : v16.Outside ≡ read16 s i → length s < i + 2
+  unfolding read16
+  read16-outside e = leb-false _ _ (outside16 (leb (i + 2) (length s)) (le16 s i) e)
+
+  pub read32-value : (v : ℕ) → v32.Value v ≡ read32 s i → Word s i v 4 (le32 s i)
+  unfolding read32
+  read32-value v e =
+      let q = value32 (leb (i + 4) (length s)) v (le32 s i) e in
+      record { inside = leb-true _ _ (q .0); is = q .1 }
+
+  pub read32-outside : v32.Outside ≡ read32 s i → length s < i + 4
+  unfolding read32
+  read32-outside e = leb-false _ _ (outside32 (leb (i + 4) (length s)) (le32 s i) e)
+
+-- ---- an offset taken apart
+module _ (r : Offset) (d : Option ℕ) (e : place r ≡ d) where
+  pub place-some : (i : ℕ) → r ≡ o.At i → some i ≡ d
+  unfolding place
+  place-some i q = rw q at e
+
+  pub place-none : r ≡ o.Nowhere → none ≡ d
+  unfolding place
+  place-none q = rw q at e
+
+-- ---- numbers skipped
+module _ (s : List ℕ) (i : ℕ) where
+  pub skipped-again : (n m : ℕ) (r : Option ℕ) → 0 < n → l.Bytes m ≡ ulebLen s i → skipped n s i ≡ r → skipped (n - 1) s (i + m) ≡ r
+  unfolding skipped
+  skipped-again zero m r z e q = absurd (omega arith)
+  skipped-again (suc n) m r z e q = rw sub-one (rw (← e) at q)
+
+  pub skipped-off : (n : ℕ) (r : Option ℕ) → 0 < n → l.RunsOff ≡ ulebLen s i → skipped n s i ≡ r → place o.Nowhere ≡ r
+  unfolding skipped place
+  skipped-off zero r z e q = absurd (omega arith)
+  skipped-off (suc n) r z e q = rw (← e) at q
+
+  pub skipped-end : (n : ℕ) (r : Option ℕ) → n ≤ 0 → skipped n s i ≡ r → place (o.At i) ≡ r
+  unfolding skipped place
+  skipped-end zero r z q = q
+  skipped-end (suc n) r z q = absurd (omega arith)
+
+-- ---- the sizes that open a class data item
+module _ (s : List ℕ) (i : ℕ) where
+  pub two-off1 : u.RunsOff ≡ ulebFast s i → n.RunsOff ≡ twoAt s i
+  unfolding twoAt
+  two-off1 e = rw (← e)
+
+  module _ (x a : ℕ) (e1 : u.Number x a ≡ ulebFast s i) where
+    pub two-off2 : u.RunsOff ≡ ulebFast s (i + a) → n.RunsOff ≡ twoAt s i
+    unfolding twoAt
+    two-off2 e = rw (← e1, ← e)
+
+    pub two-at : (y b : ℕ) → u.Number y b ≡ ulebFast s (i + a) → n.At x y (i + a + b) ≡ twoAt s i
+    unfolding twoAt
+    two-at y b e2 = rw (← e1, ← e2)
+
+  pub sizes-off1 : n.RunsOff ≡ twoAt s i → z.RunsOff ≡ sizesAt s i
+  unfolding sizesAt
+  sizes-off1 e = rw (← e)
+
+  module _ (x y p : ℕ) (e1 : n.At x y p ≡ twoAt s i) where
+    pub sizes-off2 : n.RunsOff ≡ twoAt s p → z.RunsOff ≡ sizesAt s i
+    unfolding sizesAt
+    sizes-off2 e = rw (← e1, ← e)
+
+    pub sizes-at : (d v q : ℕ) → n.At d v q ≡ twoAt s p → z.At (2 * ((x + y) % 4294967296)) d v q ≡ sizesAt s i
+    unfolding sizesAt
+    sizes-at d v q e2 = rw (← e1, ← e2)
+
+-- ---- the numbers of a method
+module _ (s : List ℕ) (i m : ℕ) where
+  pub head-off1 : u.RunsOff ≡ ulebFast s i → HeadRead s i m (h.Refused NumberOutside)
+  unfolding methodsFrom HeadRead
+  head-off1 e = λ methods n. rw (← e)
+
+  module _ (d a : ℕ) (e1 : u.Number d a ≡ ulebFast s i) where
+    pub head-index : 4294967296 ≤ m + d % 4294967296 → HeadRead s i m (h.Refused MethodIndex)
+    unfolding methodsFrom HeadRead
+    head-index q = λ methods n. rw (← e1, le-ltb _ _ q)
+
+    module _ (q : m + d % 4294967296 < 4294967296) where
+      pub head-off2 : u.RunsOff ≡ ulebFast s (i + a) → HeadRead s i m (h.Refused NumberOutside)
+      unfolding methodsFrom HeadRead
+      head-off2 e = λ methods n. rw (← e1, lt-ltb _ _ q, ← e)
+
+      module _ (x b : ℕ) (e2 : u.Number x b ≡ ulebFast s (i + a)) where
+        pub head-off3 : u.RunsOff ≡ ulebFast s (i + a + b) → HeadRead s i m (h.Refused NumberOutside)
+        unfolding methodsFrom HeadRead
+        head-off3 e = λ methods n. rw (← e1, lt-ltb _ _ q, ← e2, ← e)
+
+        pub head-at : (v c : ℕ) → u.Number v c ≡ ulebFast s (i + a + b) → HeadRead s i m (h.At (i + a + b + c) (m + d % 4294967296) (v % 4294967296))
+        unfolding methodsFrom HeadRead
+        head-at v c e3 =
+            let k1 = fast-keeps _ _ _ _ e1 in
+            let k2 = fast-keeps _ _ _ _ e2 in
+            let k3 = fast-keeps _ _ _ _ e3 in
+            record { rest = λ methods n. rw (← e1, lt-ltb _ _ q, ← e2, ← e3); on = omega arith; inside = k3 .inside }
+
+module _ (s : List ℕ) (i m : ℕ) (r : Head) (q : HeadRead s i m r) where
+  pub head-told : (p j c : ℕ) → r ≡ h.At p j c → HeadAt s i m p j c
+  unfolding HeadRead
+  head-told p j c e = subst (HeadRead s i m) e q
+
+  pub head-refused : (y : Refusal) → r ≡ h.Refused y → (methods n : ℕ) → refused y ≡ methodsFrom (suc n) s methods i m
+  unfolding HeadRead
+  head-refused y e = subst (HeadRead s i m) e q
+
+-- ---- a code item
+module _ (s : List ℕ) (c : ℕ) where
+  pub item-header : length s < c + 12 + 4 → t.Outside ≡ itemAt s c
+  unfolding itemAt
+  item-header q =
+      let p : length s < c + 16 = omega arith in
+      rw (lt-leb _ _ p)
+
+  module _ (q : c + 12 + 4 ≤ length s) (n : ℕ) (e : n ≡ le32 s (c + 12)) where
+    abbrev fits : c + 16 ≤ length s
+    fits = omega arith
+
+    pub item-empty : n ≡ 0 → t.Outside ≡ itemAt s c
+    unfolding itemAt
+    item-empty z =
+        let y : n ≤ 0 = omega arith in
+        rw (le-leb _ _ fits, ← e, le-ltb 0 n y)
+
+    module _ (z : n ≡ 0 → ⊥) where
+      abbrev some-unit : 0 < n
+      some-unit = omega (arith, z)
+
+      pub item-past : length s < c + 16 + 2 * n → t.Outside ≡ itemAt s c
+      unfolding itemAt
+      item-past p = rw (le-leb _ _ fits, ← e, lt-ltb 0 n some-unit, lt-leb _ _ p)
+
+      pub item-units : c + 16 + 2 * n ≤ length s → t.Units n ≡ itemAt s c
+      unfolding itemAt
+      item-units p = rw (le-leb _ _ fits, ← e, lt-ltb 0 n some-unit, le-leb _ _ p)
+
+item-none : (b : Bool) (x : ℕ) → t.Outside ≡ cond b (t.Units x) t.Outside → b ≡ false
+item-none true x e = absurd (let q : _≡_ {A = ℕ} 0 1 = cc in omega arith)
+item-none false x e = refl
+
+item-some : (b : Bool) (n x : ℕ) → t.Units n ≡ cond b (t.Units x) t.Outside → (b ≡ true) × (n ≡ x)
+item-some true n x e = (refl, cc)
+item-some false n x e = absurd (let q : _≡_ {A = ℕ} 0 1 = cc in omega arith)
+
+pub record CodeFacts (s : List ℕ) (c n : ℕ) : Type 0 where
+  pub some : 0 < n
+  pub inside : c + 16 + 2 * n ≤ length s
+
+pub code-facts : (s : List ℕ) (c : ℕ) → codeInside s c ≡ true → CodeFacts s c (insns-size s c)
+code-facts s c e =
+    let a = leb (c + 16) (length s) in
+    let b = ltb 0 (insns-size s c) in
+    let d = leb (c + 16 + 2 * insns-size s c) (length s) in
+    record { some = ltb-true _ _ (and-right a b (and-left (a && b) d e)); inside = leb-true _ _ (and-right (a && b) d e) }
+
+-- a code item that was accepted, or not
+module _ (s : List ℕ) (c : ℕ) where
+  pub item-out : t.Outside ≡ itemAt s c → codeInside s c ≡ false
+  unfolding itemAt
+  item-out e = item-none (codeInside s c) (insns-size s c) e
+
+  pub item-in : (n : ℕ) → t.Units n ≡ itemAt s c → (codeInside s c ≡ true) × (n ≡ insns-size s c)
+  unfolding itemAt
+  item-in n e = item-some (codeInside s c) n (insns-size s c) e
+
+  pub item-facts : (n : ℕ) → t.Units n ≡ itemAt s c → CodeFacts s c n
+  item-facts n e =
+      let q = item-in n e in
+      subst (CodeFacts s c) (sym (q .1)) (code-facts s c (q .0))

@@ -1,0 +1,147 @@
+// One class data item walked (insn_locator.rs: `_class_data_parse`): each method with code leaves three words and its start word.
+ghost use mathlib.Core.Path.{_≡_};
+ghost use Prim.Native.Nat.{_+_, _<_, _^_};
+ghost use mathlib.Core.List.{[], _∷_};
+ghost use lib.Seq.{sets};
+ghost use Rattle.class_data.specs.Walk.{methodsFrom, classDataAt};
+ghost use Rattle.class_data.specs.Steps.{stored, seen, StorePre, StoredCode, StepPre, Onward, MethodsPre, ItemPre};
+use super::item;
+use super::item::Method;
+use super::item::Methods;
+use refusal::Refusal;
+
+// Three words one behind another, each where it fits.
+fn put_three(triples: &mut [u32], at: usize, first: u32, last: u32, method: u32)
+    requires { ⌜ at + 2 < 2 ^ 64 ⌝ }
+    ensures { λ _. ⌜ now (triples .exit) ≡ sets (now (triples .entry)) at (first ∷ last ∷ method ∷ []) ⌝ }
+{
+    words::put(triples, at, first);
+    words::put(triples, at + 1, last);
+    words::put(triples, at + 2, method);
+}
+
+// Keeps code number k: its three words, where they fit, and the method's start word.
+fn store(triples: &mut [u32], starts: &mut [u32], k: usize, idx: u32, code: u32, units: u32)
+    requires { ⌜ StorePre k code units ⌝ }
+    ensures { λ _. ⌜ StoredCode k idx code units (now (triples .entry)) (now (triples .exit)) (now (starts .entry)) (now (starts .exit)) ⌝ }
+{
+    let first = code + 16;
+    put_three(
+        triples,
+        3 * k,
+        first / 16,
+        (first + 2 * units - 1) / 16,
+        idx,
+    );
+    words::put(starts, idx as usize, first);
+}
+
+// Where a walk over methods stands: the next offset, the index before it, and how many codes were found.
+struct At {
+    pub pos: usize,
+    pub idx: u32,
+    pub count: usize,
+}
+
+enum Step {
+    On(At),
+    Refused(Refusal),
+}
+
+// One method.
+fn encoded_method(buf: &[u8], methods: u32, w: At, triples: &mut [u32], starts: &mut [u32]) -> Step
+    requires { ⌜ StepPre (now buf) w ⌝ }
+    ensures { λ r. ⌜ Onward (now (buf .entry)) methods w (now (triples .entry)) (now (starts .entry)) r (now (triples .exit)) (now (starts .exit)) ⌝ }
+{
+    match item::method_code(buf, methods, w.pos, w.idx) {
+        Method::Refused(r) => Step::Refused(r),
+        Method::Bare { pos, idx } => Step::On(At {
+            pos: pos,
+            idx: idx,
+            count: w.count,
+        }),
+        Method::Coded {
+            pos,
+            idx,
+            code,
+            units,
+        } => {
+            store(triples, starts, w.count, idx, code, units);
+            Step::On(At {
+                pos: pos,
+                idx: idx,
+                count: w.count + 1,
+            })
+        }
+    }
+}
+
+// The end of a walk: the offset behind it, and how many codes were found.
+pub(crate) enum Walked {
+    Found { next: usize, count: usize },
+    Refused(Refusal),
+}
+
+// n methods one behind another, with count codes found before them.
+fn encoded_methods(
+    buf: &[u8],
+    methods: u32,
+    n: u64,
+    pos: usize,
+    count: usize,
+    triples: &mut [u32],
+    starts: &mut [u32],
+) -> Walked
+    requires { ⌜ MethodsPre (now buf) pos count ⌝ }
+    ensures { λ r. ⌜ seen r (now (triples .exit)) (now (starts .exit)) ≡ stored count (now (triples .entry)) (now (starts .entry)) (methodsFrom n (now (buf .entry)) methods pos 0) ⌝ }
+{
+    let mut at = At {
+        pos: pos,
+        idx: 0,
+        count: count,
+    };
+    let mut left = n;
+    while 0 < left {
+        match encoded_method(buf, methods, at, triples, starts) {
+            Step::On(next) => {
+                at = next;
+                left = left - 1;
+            }
+            Step::Refused(r) => {
+                return Walked::Refused(r);
+            }
+        }
+    }
+    Walked::Found {
+        next: at.pos,
+        count: at.count,
+    }
+}
+
+// The class data item at pos, with count codes found before it. A refusal leaves any words.
+pub(crate) fn class_data_parse(
+    buf: &[u8],
+    methods: u32,
+    pos: usize,
+    count: usize,
+    triples: &mut [u32],
+    starts: &mut [u32],
+) -> Walked
+    requires { ⌜ ItemPre (now buf) count ⌝ }
+    ensures { λ r. ⌜ seen r (now (triples .exit)) (now (starts .exit)) ≡ stored count (now (triples .entry)) (now (starts .entry)) (classDataAt (now (buf .entry)) methods pos) ⌝ }
+{
+    let Methods::At {
+        direct,
+        virt,
+        pos: p,
+    } = item::class_methods(buf, pos)
+    else {
+        return Walked::Refused(Refusal::NumberOutside);
+    };
+    match encoded_methods(buf, methods, direct, p, count, triples, starts) {
+        Walked::Refused(r) => Walked::Refused(r),
+        Walked::Found { next, count: found } => {
+            encoded_methods(buf, methods, virt, next, found, triples, starts)
+        }
+    }
+}
