@@ -1,18 +1,27 @@
 -- Each way out of the finder leaves what its outcome says: a refusal's number is never 0, so that the outcome takes the same branch.
 -- Assumes nothing.
-use Prim.Native.Nat.{ℕ}
+use Prim.Native.Nat.{ℕ, _-_, _*_}
+use native.Mathlib.Omega.{arith}
 use mathlib.Core.Path.{_≡_, refl, sym, ap, _∙_}
 use mathlib.Core.List.{List, []}
-use lib.ListN.{length}
+use lib.ListN.{length, take}
+use lib.Dec.{leb}
+use mathlib.Core.Bool.{_&&_}
 use borrow.Author.Tests.{eq-eqb, ne-eqb}
 use Rattle.words.specs.Padded.{zeros, padded}
 use Rattle.words.proofs.Padded.{padded-none}
+use Rattle.words.proofs.Shared.{cond-elim}
 use Rattle.refusal.proofs.Numbers.{some-number}
+use Rattle.refusal.specs.Refusals.{tooLarge}
 use Rattle.refusal.specs.declared.Refusal.{Refusal}
 use Rattle.refusal.specs.declared.Answer.{Answer}
 use Rattle.refusal.specs.declared.Answer.the-variants as a
 use Rattle.tinydex.specs.declared.DexHeader.{DexHeader}
-use Rattle.code_table.specs.Build.{Build, buildOut}
+use Rattle.class_data.specs.Walk.{Walk}
+use Rattle.class_data.specs.Walk.Walk.{refused, found as codes-found}
+use Rattle.class_data.specs.Codes.{codesOf}
+use Rattle.code_table.specs.Slots.{baseOf, topOf, tableOf}
+use Rattle.code_table.specs.Build.{mostShares, Room, Build, noBuild, wholeBuild, builtFrom, buildOut}
 use Rattle.code_table.specs.Answer.{GivesBuild}
 use Rattle.code_table.specs.declared.Region.{Region}
 use Rattle.code_table.specs.declared.Built.{Built}
@@ -20,6 +29,8 @@ use Rattle.code_table.specs.declared.Built.the-variants as b
 use Rattle.code_item_scan.specs.Scan.{offs, marks}
 use Rattle.scan_locate.specs.Search.{searchOut, searchBehind}
 use Rattle.scan_locate.specs.Gives.{GivesSearch, Cleared}
+use Rattle.scan_locate.proofs.Laws.{take-padded}
+use Rattle.demand.proofs.Starts.{startsOf-length}
 use Rattle.findrefs.specs.Find.{Lengths, found, searchOf, findOut}
 use Rattle.findrefs.specs.Gives.{GivesFind, foundOf, builtLeft, Keeps}
 use Rattle.findrefs.specs.declared.Found.{Found}
@@ -40,6 +51,25 @@ module _ {p : Built} (q : Answer) (zs ts xs ws : List ℕ) where
         → Keeps p q (r.Refused x) zs ts xs ws zs′ ts′ xs′ ws′
     unfolding foundOf builtLeft
     keeps-unfound zs′ ts′ xs′ ws′ x f C = rw (e, f) (record { found = refl; starts = C .first; triples = C .second; slots = C .third; shares = C .fourth })
+
+-- ---- a build that succeeds has a start word for each method
+abbrev StartEach : ℕ → Build → Type 0
+StartEach m B = B .number ≡ 0 → length (B .starts) ≡ m
+
+start-each : (m : ℕ) (room : Room) (x : Walk) → StartEach m (builtFrom m room x)
+start-each m room (refused r) = λ e. absurd (some-number r e)
+start-each m room (codes-found cs n) =
+    cond-elim (StartEach m)
+    (leb (3 * length cs) (room .triples) && leb (topOf cs - baseOf cs) (room .slots) && leb (length (tableOf cs .shares)) (room .shares)
+    && leb (length (tableOf cs .shares)) mostShares)
+    (wholeBuild m cs) (noBuild 4) (λ _ e. startsOf-length m cs) (λ _ e. absurd (omega arith))
+
+pub built-starts : (s : List ℕ) (h : DexHeader) (room : Room) → StartEach (h .methods .size) (buildOut s h room)
+unfolding buildOut
+built-starts s h room =
+    cond-elim (StartEach (h .methods .size)) (tooLarge (length s)) (noBuild 1) _ (λ _ e. absurd (omega arith))
+    (λ _. cond-elim (StartEach (h .methods .size)) (leb (h .methods .size) (room .starts)) (builtFrom (h .methods .size) room (codesOf s h)) (noBuild 4)
+    (λ _. start-each (h .methods .size) room (codesOf s h)) (λ _ e. absurd (omega arith)))
 
 -- ---- build, scan and locate
 module _ (s : List ℕ) (h : DexHeader) (kind : ℕ) (wanted : List ℕ) (L : Lengths) where
@@ -80,18 +110,24 @@ module _ (s : List ℕ) (h : DexHeader) (kind : ℕ) (wanted : List ℕ) (L : Le
     B : GivesBuild buildOf (L .build) (b.Done g c n k) zs ts xs ws
     B = rw e at G
 
-    searched-is : searchOut s kind wanted (g .start) (g .end) xs zs ws (L .offs) (L .marks) (L .further) (L .answers) ≡ searchOf s kind wanted L buildOf
-    searched-is = rw (B .from, B .to, B .slots, B .starts, B .shares)
+    passed-is : take (h .methods .size) zs ≡ buildOf .starts
+    passed-is =
+        ap (take (h .methods .size)) (B .starts)
+        ∙ take-padded (L .build .starts) (h .methods .size) (buildOf .starts) (sym (built-starts s h (L .build) (sym (B .number))))
+
+    searched-is : searchOut s kind wanted (g .start) (g .end) xs (take (h .methods .size) zs) ws (L .offs) (L .marks) (L .further) (L .answers)
+        ≡ searchOf s kind wanted L buildOf
+    searched-is = rw (B .from, B .to, B .slots, passed-is, B .shares)
 
     module _ (os₀ ms₀ fs₀ as₀ os ms fs as′ : List ℕ) (lo : length os₀ ≡ L .offs) (lm : length ms₀ ≡ L .marks) (lf : length fs₀ ≡ L .further)
         (la : length as₀ ≡ L .answers) where
       as-search : (q : Answer)
-          → GivesSearch (searchOut s kind wanted (g .start) (g .end) xs zs ws (length os₀) (length ms₀) (length fs₀) (length as₀)) q os₀ ms₀ fs₀ as₀ os ms fs as′
+          → GivesSearch (searchOut s kind wanted (g .start) (g .end) xs (take (h .methods .size) zs) ws (length os₀) (length ms₀) (length fs₀) (length as₀)) q os₀ ms₀ fs₀ as₀ os ms fs as′
           → GivesSearch (searchOf s kind wanted L buildOf) q os₀ ms₀ fs₀ as₀ os ms fs as′
       as-search q R = rw (lo, lm, lf, la, searched-is) at R
 
       find-found : {q : Answer} (d : ℕ) → q ≡ a.Done d
-          → GivesSearch (searchOut s kind wanted (g .start) (g .end) xs zs ws (length os₀) (length ms₀) (length fs₀) (length as₀)) q os₀ ms₀ fs₀ as₀ os ms fs as′
+          → GivesSearch (searchOut s kind wanted (g .start) (g .end) xs (take (h .methods .size) zs) ws (length os₀) (length ms₀) (length fs₀) (length as₀)) q os₀ ms₀ fs₀ as₀ os ms fs as′
           → GivesFind (findOut s h kind wanted L) L (r.Done g d) zs ts xs ws os ms fs as′
       find-found {q} d w R =
           let T : GivesSearch (searchOf s kind wanted L buildOf) (a.Done d) os₀ ms₀ fs₀ as₀ os ms fs as′ = rw w at (as-search q R) in
@@ -112,7 +148,7 @@ module _ (s : List ℕ) (h : DexHeader) (kind : ℕ) (wanted : List ℕ) (L : Le
           })
 
       find-unfound : {q : Answer} (x : Refusal) (zs′ ts′ xs′ ws′ : List ℕ) → q ≡ a.Refused x
-          → GivesSearch (searchOut s kind wanted (g .start) (g .end) xs zs ws (length os₀) (length ms₀) (length fs₀) (length as₀)) q os₀ ms₀ fs₀ as₀ os ms fs as′
+          → GivesSearch (searchOut s kind wanted (g .start) (g .end) xs (take (h .methods .size) zs) ws (length os₀) (length ms₀) (length fs₀) (length as₀)) q os₀ ms₀ fs₀ as₀ os ms fs as′
           → zs′ ≡ zeros (L .build .starts) → ts′ ≡ zeros (L .build .triples) → xs′ ≡ zeros (L .build .slots) → ws′ ≡ zeros (L .build .shares)
           → GivesFind (findOut s h kind wanted L) L (r.Refused x) zs′ ts′ xs′ ws′ os ms fs as′
       find-unfound {q} x zs′ ts′ xs′ ws′ w R z t y v =
@@ -138,7 +174,7 @@ module _ (s : List ℕ) (h : DexHeader) (kind : ℕ) (wanted : List ℕ) (L : Le
       (lz : length zs ≡ L .build .starts) (lt : length ts ≡ L .build .triples) (lx : length xs ≡ L .build .slots) (lw : length ws ≡ L .build .shares)
       (lo : length os₀ ≡ L .offs) (lm : length ms₀ ≡ L .marks) (lf : length fs₀ ≡ L .further) (la : length as₀ ≡ L .answers) where
     by-answers : (p : Built) (q : Answer) → GivesBuild buildOf (L .build) p zs ts xs ws
-        → GivesSearch (searchBehind p s kind wanted xs zs ws (length os₀) (length ms₀) (length fs₀) (length as₀)) q os₀ ms₀ fs₀ as₀ os ms fs as′
+        → GivesSearch (searchBehind p (h .methods .size) s kind wanted xs zs ws (length os₀) (length ms₀) (length fs₀) (length as₀)) q os₀ ms₀ fs₀ as₀ os ms fs as′
         → GivesFind (findOut s h kind wanted L) L (foundOf p q) (builtLeft p q zs) (builtLeft p q ts) (builtLeft p q xs) (builtLeft p q ws) os ms fs as′
     unfolding searchBehind foundOf builtLeft
     by-answers (b.Done g c n k) (a.Done d) G R =
@@ -154,7 +190,7 @@ module _ (s : List ℕ) (h : DexHeader) (kind : ℕ) (wanted : List ℕ) (L : Le
         (R .answers ∙ (padded-none (length as₀) ∙ ap zeros la))
 
     pub find-gives : GivesBuild buildOf (L .build) p zs ts xs ws
-        → GivesSearch (searchBehind p s kind wanted xs zs ws (length os₀) (length ms₀) (length fs₀) (length as₀)) q os₀ ms₀ fs₀ as₀ os ms fs as′
+        → GivesSearch (searchBehind p (h .methods .size) s kind wanted xs zs ws (length os₀) (length ms₀) (length fs₀) (length as₀)) q os₀ ms₀ fs₀ as₀ os ms fs as′
         → Keeps p q r zs ts xs ws zs′ ts′ xs′ ws′
         → GivesFind (findOut s h kind wanted L) L r zs′ ts′ xs′ ws′ os ms fs as′
     find-gives G R K = rw (K .found, K .starts, K .triples, K .slots, K .shares) (by-answers p q G R)

@@ -31,10 +31,10 @@ found B R =
     (record { number = 0; build = B; hits = R .hits; answers = R .answers })
     (record { number = R .number; build = noBuild (R .number); hits = R .hits; answers = R .answers })
 
--- the search over the build's own region and tables, as they stand in the lent slices
+-- the search over the build's own region and tables: its slots and shares as they stand in the lent slices, and a start word for each method
 abbrev pub searchOf : List ℕ → ℕ → List ℕ → Lengths → Build → Search
 searchOf s kind wanted L B =
-    searchOut s kind wanted (B .from) (B .to) (padded (L .build .slots) (B .slots)) (padded (L .build .starts) (B .starts))
+    searchOut s kind wanted (B .from) (B .to) (padded (L .build .slots) (B .slots)) (B .starts)
     (padded (L .build .shares) (B .shares)) (L .offs) (L .marks) (L .further) (L .answers)
 
 unfoldable pub findOut : List ℕ → DexHeader → ℕ → List ℕ → Lengths → Find

@@ -17,12 +17,12 @@ use Rattle.findrefs.specs.Find.{Lengths}
 use Rattle.findrefs.specs.Gives.{foundNumber, foundHits}
 use Rattle.findrefs.specs.declared.Found.{Found}
 
--- the lent words, and so many for a listing
-abbrev pub lentOf : Lengths → ℕ → Lent
-lentOf L list = record {
+-- the lent words, of which the start words of the methods are passed on, and so many words for a listing
+abbrev pub lentOf : ℕ → Lengths → ℕ → Lent
+lentOf methods L list = record {
   build = L .build;
   slots = L .build .slots;
-  starts = L .build .starts;
+  starts = methods;
   shares = L .build .shares;
   offs = L .offs;
   marks = L .marks;
@@ -64,5 +64,5 @@ unfoldable pub Promise : List ℕ → DexHeader → ℕ → List ℕ → Lengths
 Promise s h number wanted L r ws os ms as′ =
     (codes : List Code) → Supposed s (h .mapoff) (h .classes .off) (h .classes .size) (h .methods .size) codes
     → (kind : Kind) → number ≡ kindNumber kind
-    → (list : ℕ) → Suffices s (h .methods .size) codes kind wanted (lentOf L list)
+    → (list : ℕ) → Suffices s (h .methods .size) codes kind wanted (lentOf (h .methods .size) L list)
     → Delivers s codes kind wanted list r ws os ms as′

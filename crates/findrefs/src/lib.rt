@@ -48,7 +48,7 @@ fn keep(
 
 // Every instruction of a kind that names a wanted index. Whatever stood in the lent slices, they hold afterwards: the build's start words,
 // triples, slots and shares; the scan's offsets and the indices beside them; for each entry its slot word, or 0 where no walk confirms
-// it; and zeros in the further words. On a refusal every lent word is zero.
+// it; and zeros in the further words, of which as many are needed as there are methods. On a refusal every lent word is zero.
 pub fn find(
     file: &[u8],
     header: DexHeader,
@@ -69,6 +69,7 @@ pub fn find(
     let built = code_table::parse(file, header, starts, triples, slots, shares);
     let answer = scan_locate::search_built(
         built,
+        header.methods.size,
         file,
         kind,
         wanted,

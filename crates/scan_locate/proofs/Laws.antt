@@ -1,11 +1,11 @@
 -- Each way out of the search leaves what its outcome says: a refusal's number is never 0, so that the outcome takes the same branch.
 -- Assumes nothing.
-use Prim.Native.Nat.{ℕ, suc, _+_, _-_, _/_, _≤_}
+use Prim.Native.Nat.{ℕ, suc, _+_, _-_, _/_, _≤_, _<_}
 use native.Mathlib.Omega.{arith}
 use mathlib.Core.Path.{_≡_, refl, sym, ap, _∙_}
 use mathlib.Core.List.{List, [], _∷_}
 use lib.ListN.{length, take, length-append}
-use lib.Seq.{take-at}
+use lib.Seq.{take-at, take-all}
 use borrow.Author.Tests.{eq-eqb, ne-eqb}
 use Rattle.words.specs.Padded.{zeros, padded}
 use Rattle.words.proofs.Padded.{padded-none}
@@ -63,7 +63,7 @@ module _ (s : List ℕ) (kind : ℕ) (wanted : List ℕ) (from to : ℕ) (slots 
   unfolding searchOut
   search-some e = rw (eq-eqb (scanOut s kind wanted from to roomO roomM .number) 0 e)
 
-take-padded : (n k : ℕ) (xs : List ℕ) → k ≡ length xs → take k (padded n xs) ≡ xs
+pub take-padded : (n k : ℕ) (xs : List ℕ) → k ≡ length xs → take k (padded n xs) ≡ xs
 unfolding padded
 take-padded n k xs e = take-at xs (zeros (n - length xs)) k (sym e)
 
@@ -162,9 +162,12 @@ module _ (s : List ℕ) (kind : ℕ) (wanted : List ℕ) (from to : ℕ) (slots 
         })
 
 -- ---- the search behind a build
-module _ (p : Built) (s : List ℕ) (kind : ℕ) (wanted xs zs ws os₀ ms₀ fs₀ as₀ os ms fs as′ : List ℕ) where
+pub all-words : (n : ℕ) (w : List ℕ) → length w < n → w ≡ take n w
+all-words n w h = sym (take-all n w (omega arith))
+
+module _ (p : Built) (methods : ℕ) (s : List ℕ) (kind : ℕ) (wanted xs zs ws os₀ ms₀ fs₀ as₀ os ms fs as′ : List ℕ) where
   abbrev behind : Search
-  behind = searchBehind p s kind wanted xs zs ws (length os₀) (length ms₀) (length fs₀) (length as₀)
+  behind = searchBehind p methods s kind wanted xs zs ws (length os₀) (length ms₀) (length fs₀) (length as₀)
 
   pub behind-refused : (x : Refusal) → p ≡ b.Refused x → Cleared os₀ ms₀ fs₀ as₀ os ms fs as′
       → GivesSearch behind (a.Refused x) os₀ ms₀ fs₀ as₀ os ms fs as′
@@ -179,7 +182,8 @@ module _ (p : Built) (s : List ℕ) (kind : ℕ) (wanted xs zs ws os₀ ms₀ fs
   })
 
   pub behind-done : (g : Region) (c n k : ℕ) (q : Answer) → p ≡ b.Done g c n k
-      → GivesSearch (searchOut s kind wanted (g .start) (g .end) xs zs ws (length os₀) (length ms₀) (length fs₀) (length as₀)) q os₀ ms₀ fs₀ as₀ os ms fs as′
+      → (vs : List ℕ) → vs ≡ take methods zs
+      → GivesSearch (searchOut s kind wanted (g .start) (g .end) xs vs ws (length os₀) (length ms₀) (length fs₀) (length as₀)) q os₀ ms₀ fs₀ as₀ os ms fs as′
       → GivesSearch behind q os₀ ms₀ fs₀ as₀ os ms fs as′
   unfolding searchBehind
-  behind-done g c n k q e G = rw e G
+  behind-done g c n k q e vs v G = rw (e, ← v) G

@@ -3,6 +3,7 @@
 use Prim.Native.Nat.{ℕ, _/_}
 use mathlib.Core.List.{List, []}
 use mathlib.Core.Bool.{cond}
+use lib.ListN.{take}
 use lib.Dec.{eqb}
 use Rattle.refusal.specs.Refusals.{refusalNumber}
 use Rattle.refusal.specs.Outcomes.{Outcome}
@@ -33,8 +34,9 @@ searchOut s kind wanted from to slots starts shares roomO roomM roomF roomA =
     (searched (S .hits) (locateOut s (tables (from / 16) slots starts shares) (offs (S .hits)) roomA roomF))
     (record { number = S .number; hits = S .hits; answers = [] })
 
--- the search behind a build's answer: over its region, and none where it refused
-unfoldable pub searchBehind : Built → List ℕ → ℕ → List ℕ → List ℕ → List ℕ → List ℕ → ℕ → ℕ → ℕ → ℕ → Search
-searchBehind (b.Done region codes n k) s kind wanted slots starts shares roomO roomM roomF roomA =
-    searchOut s kind wanted (region .start) (region .end) slots starts shares roomO roomM roomF roomA
-searchBehind (b.Refused r) s kind wanted slots starts shares roomO roomM roomF roomA = record { number = refusalNumber r; hits = []; answers = [] }
+-- the search behind a build's answer: over its region and the start words of the methods, and none where it refused
+unfoldable pub searchBehind : Built → ℕ → List ℕ → ℕ → List ℕ → List ℕ → List ℕ → List ℕ → ℕ → ℕ → ℕ → ℕ → Search
+searchBehind (b.Done region codes n k) methods s kind wanted slots starts shares roomO roomM roomF roomA =
+    searchOut s kind wanted (region .start) (region .end) slots (take methods starts) shares roomO roomM roomF roomA
+searchBehind (b.Refused r) methods s kind wanted slots starts shares roomO roomM roomF roomA =
+    record { number = refusalNumber r; hits = []; answers = [] }

@@ -1,5 +1,6 @@
 // The finder's second half: the scan of a build's region and locate of its list, over lent buffers. `findrefs` has the whole.
 ghost use Prim.Native.Nat.{_≤_};
+ghost use mathlib.Core.Path.{_≡_};
 ghost use lib.ListN.{length, take};
 ghost use Rattle.insn_locator.specs.Locate.{locateOut};
 ghost use Rattle.insn_locator.specs.Answers.{tables};
@@ -89,9 +90,22 @@ fn search(
     }
 }
 
-// The search over what a build returned, or zeros where it refused.
+// The first n words of w, or all where it has fewer.
+fn first_words(w: &[u32], n: u32) -> &[u32]
+    ensures { λ r. ⌜ now r ≡ take n (now (w .entry)) ⌝ }
+{
+    let k = n as usize;
+    if w.len() < k {
+        return w;
+    }
+    &w[..k]
+}
+
+// The search over what a build returned, or zeros where it refused. Of the start words those of the methods are passed on, so that
+// locate asks for as many further words as there are methods, however many start words were lent.
 pub fn search_built(
     built: Built,
+    methods: u32,
     file: &[u8],
     kind: u32,
     wanted: &[u32],
@@ -103,7 +117,7 @@ pub fn search_built(
     further: &mut [u32],
     answers: &mut [u32],
 ) -> Answer
-    ensures { λ r. ⌜ GivesSearch (searchBehind built (now (file .entry)) kind (now (wanted .entry)) (now (slots .entry)) (now (starts .entry)) (now (shares .entry)) (length (now (offs .entry))) (length (now (marks .entry))) (length (now (further .entry))) (length (now (answers .entry)))) r (now (offs .entry)) (now (marks .entry)) (now (further .entry)) (now (answers .entry)) (now (offs .exit)) (now (marks .exit)) (now (further .exit)) (now (answers .exit)) ⌝ }
+    ensures { λ r. ⌜ GivesSearch (searchBehind built methods (now (file .entry)) kind (now (wanted .entry)) (now (slots .entry)) (now (starts .entry)) (now (shares .entry)) (length (now (offs .entry))) (length (now (marks .entry))) (length (now (further .entry))) (length (now (answers .entry)))) r (now (offs .entry)) (now (marks .entry)) (now (further .entry)) (now (answers .entry)) (now (offs .exit)) (now (marks .exit)) (now (further .exit)) (now (answers .exit)) ⌝ }
 {
     match built {
         Built::Refused(r) => {
@@ -121,7 +135,7 @@ pub fn search_built(
             kind,
             wanted,
             slots,
-            starts,
+            first_words(starts, methods),
             shares,
             offs,
             marks,

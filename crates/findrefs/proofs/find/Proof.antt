@@ -18,7 +18,7 @@ keep-requires : tie.Need-keep-requires
 keep-requires c κs = search needs
 
 same-length : tie.Need-same-length
-same-length c = search needs
+same-length c = omega (arith, c .before .before .before .before .before .before .before .starts2 .given, c .before .before .before .before .before .before .before .before .before .before .before .before .before .before .before .before .before .before .before .before .before .before .before .before .before .before .before .before .before .before .before .before .before .before .before .before .starts .given)
 
 same-length-2 : tie.Need-same-length-2
 same-length-2 c = search needs

@@ -13,6 +13,9 @@ clear-four-requires c κs = search needs
 enum-known-built-2 : tie.Need-enum-known-built-2
 enum-known-built-2 c = search needs
 
+first-words-requires : tie.Need-first-words-requires
+first-words-requires c κs = search needs
+
 search-requires : tie.Need-search-requires
 search-requires c κs = search needs
 
@@ -29,7 +32,7 @@ same-length-4 : tie.Need-same-length-4
 same-length-4 c = search needs
 
 returns : tie.Need-returns
-returns c = behind-refused _ _ _ _ _ _ _ _ _ _ _ _ _ _ _ _ (c .before .before .before .before .before .before .before .before .before .before .before .before .before .before .built .given .1) (c .before .before .before .before .before .before .before .before .clear-four .ensures)
+returns c = behind-refused _ _ _ _ _ _ _ _ _ _ _ _ _ _ _ _ _ (c .before .before .before .before .before .before .before .before .before .before .before .before .before .before .built .given .1) (c .before .before .before .before .before .before .before .before .clear-four .ensures)
 
 same-length-5 : tie.Need-same-length-5
 same-length-5 c = search needs
@@ -44,7 +47,7 @@ same-length-8 : tie.Need-same-length-8
 same-length-8 c = search needs
 
 returns-2 : tie.Need-returns-2
-returns-2 c = behind-done _ _ _ _ _ _ _ _ _ _ _ _ _ _ _ _ _ _ _ _ (c .before .before .before .before .before .before .before .before .before .before .before .before .before .before .built2 .given .1) (c .before .before .before .before .before .before .before .before .search .ensures)
+returns-2 c = behind-done _ _ _ _ _ _ _ _ _ _ _ _ _ _ _ _ _ _ _ _ _ (c .before .before .before .before .before .before .before .before .before .before .before .before .before .before .before .built2 .given .1) _ (c .before .before .before .before .before .before .before .before .before .before .before .before .before .first-words .ensures) (c .before .before .before .before .before .before .before .before .search .ensures)
 
 pub search-built-spec : {M : Type 1} → statement M
 search-built-spec =
@@ -53,6 +56,7 @@ search-built-spec =
     enum-known-built
     clear-four-requires
     enum-known-built-2
+    first-words-requires
     search-requires
     same-length
     same-length-2
