@@ -3,11 +3,14 @@
 use Prim.Native.Nat.{ℕ, zero, suc, _+_, _-_, _≤_, _<_}
 use native.Mathlib.Omega.{arith}
 use mathlib.Core.Path.{_≡_, refl, sym, ap, _∙_}
+use mathlib.Core.Bool.{Bool, true, false, not}
 use mathlib.Core.List.{List}
-use lib.ListN.{length, take, length-append, length-replicate}
+use lib.ListN.{length, getD, take, length-append, length-replicate}
 use lib.Seq.{take-at}
-use borrow.Author.Tests.{eq-eqb}
+use lib.Dec.{eqb}
+use borrow.Author.Tests.{eq-eqb, eqb-true, lt-ltb, le-ltb}
 use Rattle.words.specs.Padded.{zeros, padded}
+use Rattle.words.proofs.Shared.{and-left, and-right}
 use Rattle.refusal.specs.declared.Refusal.{Refusal}
 use Rattle.refusal.specs.declared.Answer.{Answer}
 use Rattle.refusal.specs.declared.Answer.the-variants.{Done, Refused}
@@ -16,7 +19,8 @@ use Rattle.refusal.specs.Outcomes.{Outcome, Gives, refused}
 use Rattle.refusal.proofs.Outcomes.{gives-refused}
 use Rattle.refusal.proofs.Numbers.{numbered}
 use Rattle.listing_text.specs.Text.{entryOut}
-use Rattle.entry_lines.specs.Line.{lineBy, lineAt, firstRefused, Tries}
+use Rattle.entry_lines.specs.Line.{lineBy, lineOut, alike, lineAt, firstRefused, triedOut, GivesLine, Tries}
+use Rattle.entry_lines.specs.Steps.{RefusedBy}
 
 pub gives-as : {o : Outcome} {r x : Answer} {before after : List ℕ} → r ≡ x → Gives o r before after → Gives o x before after
 gives-as e g = rw (← e) g
@@ -47,6 +51,45 @@ module _ (o : Outcome) (before after : List ℕ) where
   line-refused off idx room why text text′ g z =
       gives-refused _ text text′ why (rw (← g .number, numbered why) refl) z
 
+-- ---- the lists
+
+-- what a test shows of a call's answer, and what the call ensures of it
+pub unlike : {r d : Bool} → not r ≡ true → r ≡ d → d ≡ false
+unlike {r = true} e f = absurd (let z : _≡_ {A = ℕ} 0 1 = cc in omega arith)
+unlike {r = false} e f = sym f
+
+pub likewise : {r d : Bool} → not r ≡ false → r ≡ d → d ≡ true
+likewise {r = true} e f = sym f
+likewise {r = false} e f = absurd (let z : _≡_ {A = ℕ} 0 1 = cc in omega arith)
+
+module _ (offs marks answers : List ℕ) where
+  pub alike-marks : alike offs marks answers ≡ true → length marks ≡ length offs
+  unfolding alike
+  alike-marks e = eqb-true (length marks) (length offs) (and-left (eqb (length marks) (length offs)) (eqb (length answers) (length offs)) e)
+
+  pub alike-answers : alike offs marks answers ≡ true → length answers ≡ length offs
+  unfolding alike
+  alike-answers e = eqb-true (length answers) (length offs) (and-right (eqb (length marks) (length offs)) (eqb (length answers) (length offs)) e)
+
+  module _ (shares : List ℕ) (words bytes i : ℕ) where
+    pub line-unlike : alike offs marks answers ≡ false → lineAt offs marks answers shares words bytes i ≡ refused 15
+    unfolding lineAt
+    line-unlike e = rw e
+
+    pub line-past : alike offs marks answers ≡ true → length offs ≤ i → lineAt offs marks answers shares words bytes i ≡ refused 15
+    unfolding lineAt
+    line-past e h = rw (e, le-ltb i (length offs) h)
+
+    pub line-held : alike offs marks answers ≡ true → i < length offs
+        → lineAt offs marks answers shares words bytes i ≡ lineOut (getD offs i 0) (getD marks i 0) (getD answers i 0) shares words bytes
+    unfolding lineAt
+    line-held e h = rw (e, lt-ltb i (length offs) h)
+
+pub line-refusal : (o : Outcome) (why : Refusal) (r : Answer) (text text′ mids mids′ : List ℕ) → o ≡ refused (refusalNumber why)
+    → RefusedBy why r text text′ mids mids′ → GivesLine o r text text′ mids mids′
+line-refusal o why r text text′ mids mids′ e q =
+    rw (q .answer) (record { line = gives-refused o text text′ why e (q .no-bytes); cleared = q .no-words })
+
 -- ---- all lines tried
 
 module _ (f : ℕ → Outcome) where
@@ -73,15 +116,40 @@ module _ (f : ℕ → Outcome) where
 
   -- the line at i was refused
   pub try-refused : (n i : ℕ) (why : Refusal) (before after : List ℕ) → i < n → Gives (f i) (Refused why) before after
-      → firstRefused f (n - i) i ≡ firstRefused f n 0 → Tries f n (Refused why)
+      → firstRefused f (n - i) i ≡ firstRefused f n 0 → refusalNumber why ≡ firstRefused f n 0
   try-refused n i why before after h g e =
       let s : n - i ≡ suc (n - (i + 1)) = omega arith in
-      let q : refusalNumber why ≡ firstRefused f n 0 = sym (first-here (n - (i + 1)) i why (g .number)) ∙ ap (λ (k : ℕ). firstRefused f k i) (sym s) ∙ e in
-      record { number = q; count = rw (← q, numbered why) refl }
+      sym (first-here (n - (i + 1)) i why (g .number)) ∙ ap (λ (k : ℕ). firstRefused f k i) (sym s) ∙ e
 
-  pub try-done : (n i : ℕ) → i ≤ n → n ≤ i → firstRefused f (n - i) i ≡ firstRefused f n 0 → Tries f n (Done i)
+  pub try-done : (n i : ℕ) → n ≤ i → firstRefused f (n - i) i ≡ firstRefused f n 0 → 0 ≡ firstRefused f n 0
   unfolding firstRefused
-  try-done n i h k e =
+  try-done n i h e =
       let s : n - i ≡ zero = omega arith in
-      let q : 0 ≡ firstRefused f n 0 = ap (λ (k : ℕ). firstRefused f k i) (sym s) ∙ e in
-      record { number = q; count = rw (eq-eqb (firstRefused f n 0) 0 (sym q)) (omega arith) }
+      ap (λ (k : ℕ). firstRefused f k i) (sym s) ∙ e
+
+module _ (offs marks answers shares : List ℕ) (words bytes : ℕ) where
+  pub tried-unlike : alike offs marks answers ≡ false → triedOut offs marks answers shares words bytes ≡ 15
+  unfolding triedOut
+  tried-unlike e = rw e
+
+  pub tried-alike : alike offs marks answers ≡ true
+      → triedOut offs marks answers shares words bytes ≡ firstRefused (lineAt offs marks answers shares words bytes) (length offs) 0
+  unfolding triedOut
+  tried-alike e = rw e
+
+-- a refusal of all, from slices as long as at first
+pub tries-refused : (number n : ℕ) (why : Refusal) (r : Answer) (text text₁ text′ mids mids₁ mids′ : List ℕ) → refusalNumber why ≡ number
+    → length text₁ ≡ length text → length mids₁ ≡ length mids → RefusedBy why r text₁ text′ mids₁ mids′ → Tries number n r text text′ mids mids′
+tries-refused number n why r text text₁ text′ mids mids₁ mids′ e t m q =
+    rw (← e, q .answer) (record {
+      numbered = refl;
+      count = rw (numbered why) refl;
+      no-bytes = q .no-bytes ∙ ap zeros t;
+      no-words = q .no-words ∙ ap zeros m;
+    })
+
+pub tries-done : (number n i : ℕ) (text text₁ text′ mids mids₁ mids′ : List ℕ) → 0 ≡ number → i ≡ n
+    → length text₁ ≡ length text → length mids₁ ≡ length mids → text′ ≡ zeros (length text₁) → mids′ ≡ zeros (length mids₁)
+    → Tries number n (Done i) text text′ mids mids′
+tries-done number n i text text₁ text′ mids mids₁ mids′ e k t m x y =
+    rw (← e) (record { numbered = refl; count = k; no-bytes = x ∙ ap zeros t; no-words = y ∙ ap zeros m })

@@ -1,8 +1,12 @@
-// The lines of the entries that `refs` lists: document 01, "Program". That every line can be made is known before any is printed.
+// The lines of the entries that `refs` lists: document 01, "Program". That every line can be made is known before any is printed. Lists of
+// unequal length are a fault: an entry without an answer is not one that is unconfirmed.
+ghost use mathlib.Core.Path.{_≡_};
 ghost use lib.ListN.{length};
 ghost use Rattle.refusal.specs.Outcomes.{Gives};
-ghost use Rattle.entry_lines.specs.Line.{lineOut, lineAt, Tries};
+ghost use Rattle.entry_lines.specs.Line.{lineOut, alike, lineAt, triedOut, GivesLine, Tries};
+ghost use Rattle.entry_lines.specs.Steps.{RefusedBy};
 use refusal::Answer;
+use refusal::Refusal;
 
 // The slot's methods listed, and the entry's line with them.
 fn line(off: u32, idx: u32, slot: u32, shares: &[u32], mids: &mut [u32], text: &mut [u8]) -> Answer
@@ -17,6 +21,22 @@ fn line(off: u32, idx: u32, slot: u32, shares: &[u32], mids: &mut [u32], text: &
     }
 }
 
+// Whether each entry has an offset, an index and an answer.
+fn alike(offs: &[u32], marks: &[u32], answers: &[u32]) -> bool
+    ensures { λ r. ⌜ r ≡ alike (now (offs .entry)) (now (marks .entry)) (now (answers .entry)) ⌝ }
+{
+    marks.len() == offs.len() && answers.len() == offs.len()
+}
+
+// A refusal, with every lent word and byte zero.
+fn refuse(why: Refusal, mids: &mut [u32], text: &mut [u8]) -> Answer
+    ensures { λ r. ⌜ RefusedBy why r (now (text .entry)) (now (text .exit)) (now (mids .entry)) (now (mids .exit)) ⌝ }
+{
+    words::fill(mids, 0);
+    text_out::clear(text);
+    Answer::Refused(why)
+}
+
 // The line of the entry at i.
 pub fn line_at(
     offs: &[u32],
@@ -27,16 +47,17 @@ pub fn line_at(
     mids: &mut [u32],
     text: &mut [u8],
 ) -> Answer
-    ensures { λ r. ⌜ Gives (lineAt (now (offs .entry)) (now (marks .entry)) (now (answers .entry)) (now (shares .entry)) (length (now (mids .entry))) (length (now (text .entry))) i) r (now (text .entry)) (now (text .exit)) ⌝ }
+    ensures { λ r. ⌜ GivesLine (lineAt (now (offs .entry)) (now (marks .entry)) (now (answers .entry)) (now (shares .entry)) (length (now (mids .entry))) (length (now (text .entry))) i) r (now (text .entry)) (now (text .exit)) (now (mids .entry)) (now (mids .exit)) ⌝ }
 {
-    line(
-        words::word_at(offs, i),
-        words::word_at(marks, i),
-        words::word_at(answers, i),
-        shares,
-        mids,
-        text,
-    )
+    if !alike(offs, marks, answers) {
+        return refuse(Refusal::LentTable, mids, text);
+    }
+    if offs.len() <= i {
+        return refuse(Refusal::LentTable, mids, text);
+    }
+    let answer = line(offs[i], marks[i], answers[i], shares, mids, text);
+    words::clear(mids);
+    answer
 }
 
 // How many entries there are, or the first refusal among their lines: known before anything is printed.
@@ -48,14 +69,19 @@ pub fn try_lines(
     mids: &mut [u32],
     text: &mut [u8],
 ) -> Answer
-    ensures { λ r. ⌜ Tries (lineAt (now (offs .entry)) (now (marks .entry)) (now (answers .entry)) (now (shares .entry)) (length (now (mids .entry))) (length (now (text .entry)))) (length (now (offs .entry))) r ⌝ }
+    ensures { λ r. ⌜ Tries (triedOut (now (offs .entry)) (now (marks .entry)) (now (answers .entry)) (now (shares .entry)) (length (now (mids .entry))) (length (now (text .entry)))) (length (now (offs .entry))) r (now (text .entry)) (now (text .exit)) (now (mids .entry)) (now (mids .exit)) ⌝ }
 {
+    if !alike(offs, marks, answers) {
+        return refuse(Refusal::LentTable, mids, text);
+    }
     let mut i = 0;
     while i < offs.len() {
         if let Answer::Refused(why) = line_at(offs, marks, answers, shares, i, mids, text) {
-            return Answer::Refused(why);
+            return refuse(why, mids, text);
         }
         i += 1;
     }
+    words::clear(mids);
+    text_out::clear(text);
     Answer::Done(i)
 }

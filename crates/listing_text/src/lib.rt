@@ -2,14 +2,14 @@
 // the line of a refusal. Text that doesn't fit is refused with 4, and then every lent byte is zero.
 ghost use lib.ListN.{length};
 ghost use Rattle.refusal.specs.Outcomes.{Gives};
-ghost use Rattle.text_out.specs.Cursor.{Appends};
+ghost use Rattle.text_out.specs.Write.{Writes};
 ghost use Rattle.listing_text.specs.Text.{more, midsText, kindName, headOut, entryOut, refusalOut};
 use refusal::Answer;
 use refusal::Refusal;
 
 // Further methods, each with its comma.
 fn put_rest(out: &mut [u8], at: usize, methods: &[u32]) -> usize
-    ensures { λ r. ⌜ Appends (now (out .entry)) at (more (now (methods .entry))) (now (out .exit)) r ⌝ }
+    ensures { λ r. ⌜ Writes (now (out .entry)) at (more (now (methods .entry))) (now (out .exit)) r ⌝ }
 {
     let mut p = at;
     let mut i = 0;
@@ -22,7 +22,7 @@ fn put_rest(out: &mut [u8], at: usize, methods: &[u32]) -> usize
 
 // The methods with commas between them, or `-` where there is none.
 fn put_mids(out: &mut [u8], at: usize, mids: &[u32]) -> usize
-    ensures { λ r. ⌜ Appends (now (out .entry)) at (midsText (now (mids .entry))) (now (out .exit)) r ⌝ }
+    ensures { λ r. ⌜ Writes (now (out .entry)) at (midsText (now (mids .entry))) (now (out .exit)) r ⌝ }
 {
     if mids.len() == 0 {
         return text_out::put(out, at, b"-");
@@ -33,7 +33,7 @@ fn put_mids(out: &mut [u8], at: usize, mids: &[u32]) -> usize
 
 // The name of a kind; any number but 1, 2 and 3 is taken for 4.
 fn put_kind(out: &mut [u8], at: usize, kind: u32) -> usize
-    ensures { λ r. ⌜ Appends (now (out .entry)) at (kindName kind) (now (out .exit)) r ⌝ }
+    ensures { λ r. ⌜ Writes (now (out .entry)) at (kindName kind) (now (out .exit)) r ⌝ }
 {
     if kind == 1 {
         return text_out::put(out, at, b"string");

@@ -94,7 +94,8 @@ fn print_entries(
     }
 }
 
-// A line has at most 45,091 bytes: 4,096 methods of ten digits with commas between them, and what stands around them.
+// A line has at most 45,091 bytes: 4,096 methods of ten digits with commas between them, and what stands around them. So it is refused
+// only as its listing is (`line-fits` of entry_lines).
 fn print_found(kind: u32, offs: &[u32], marks: &[u32], answers: &[u32], shares: &[u32]) {
     let mut mids = [0u32; 4096];
     let mut text = io::large_buffer();
@@ -113,9 +114,13 @@ fn print_answer(
 ) {
     match found {
         Found::Refused(why) => print_refusal(why),
-        Found::Done { region: _, hits } => {
-            print_found(kind, first(offs, hits), marks, answers, shares)
-        }
+        Found::Done { region: _, hits } => print_found(
+            kind,
+            first(offs, hits),
+            first(marks, hits),
+            first(answers, hits),
+            shares,
+        ),
     }
 }
 

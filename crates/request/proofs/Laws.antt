@@ -9,12 +9,20 @@ use lib.ListN.{length, set}
 use lib.Seq.{sets}
 use Rattle.text_in.specs.Numbers.{numberAt, onNumber}
 use Rattle.text_in.specs.Words.{wordAt, lineEnd, onPlace}
-use Rattle.request_lines.specs.Lines.{comma}
+use Rattle.request_lines.specs.Lines.{comma, pairLine}
+use Rattle.request_lines.specs.declared.Pair.the-variants as q
 use Rattle.text_in.specs.declared.Number.the-variants as n
 use Rattle.text_in.specs.declared.Place.the-variants as p
-use Rattle.request.specs.Request.{Listed, listed, none, consTo, indicesAt, indexLine, index=, ended, Stored, kept, nothing, stored, view}
+use Rattle.request.specs.Request.{strings=, headerLines, Listed, listed, none, consTo, indicesAt, indexLine, index=, ended}
+use Rattle.request.specs.Steps.{Stored, kept, nothing, stored, view}
+use Rattle.request.specs.declared.Header.the-variants as h
 use Rattle.request.specs.declared.Indices.{Indices}
 use Rattle.request.specs.declared.Indices.the-variants as x
+
+-- without its first line there is no record
+pub no-strings : (s : List ℕ) → q.Nothing ≡ pairLine strings= s 0 → h.Nothing ≡ headerLines s
+unfolding headerLines
+no-strings s e = rw (← e)
 
 -- one index stored, the rest to be read
 stored-cons : (k : ℕ) (ws : List ℕ) (v : ℕ) (r : Listed) → stored (k + 1) (set ws k v) r ≡ stored k ws (consTo v r)

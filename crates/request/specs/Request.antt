@@ -1,15 +1,13 @@
 -- A request, whole: document 01, "Program". Nothing may stand behind the last line.
 -- Assumes nothing.
-use Prim.Native.Nat.{ℕ, zero, suc, _+_}
+use Prim.Native.Nat.{ℕ, zero, suc}
 use mathlib.Core.Path.{_≡_}
 use mathlib.Core.List.{List, [], _∷_}
 use mathlib.Core.Bool.{cond}
 use lib.ListN.{length}
-use lib.Seq.{sets}
 use lib.Dec.{leb, eqb}
 use Rattle.words.specs.Padded.{padded}
-use Rattle.refusal.specs.declared.Refusal.{Refusal}
-use Rattle.refusal.specs.declared.Refusal.the-variants.{LentTooShort, BadRequest}
+use Rattle.refusal.specs.Refusals.{refusalNumber}
 use Rattle.tinydex.specs.declared.DexHeader.{DexHeader}
 use Rattle.tinydex.specs.declared.Table.{Table}
 use Rattle.text_in.specs.Numbers.{numberAt, onNumber}
@@ -17,8 +15,6 @@ use Rattle.text_in.specs.Words.{wordAt, lineEnd, onPlace}
 use Rattle.request_lines.specs.Lines.{pairLine, onPair, numberLine, kindLine, comma}
 use Rattle.request.specs.declared.Header.{Header}
 use Rattle.request.specs.declared.Header.the-variants as h
-use Rattle.request.specs.declared.Indices.{Indices}
-use Rattle.request.specs.declared.Indices.the-variants as x
 use Rattle.request.specs.declared.Request.{Request}
 use Rattle.request.specs.declared.Request.the-variants as r
 
@@ -82,19 +78,6 @@ indicesAt zero s i = none
 indicesAt (suc k) s i =
     onNumber (numberAt s i) none (λ v p. onPlace (wordAt comma s p) (listed (v ∷ []) p) (λ q. consTo v (indicesAt k s q)))
 
--- what is stored of a list from place n on: how many words are then stored, the words, and the place in the text
-pub data Stored : Type 0 where
-  kept : ℕ → List ℕ → ℕ → Stored
-  nothing : Stored
-
-unfoldable pub stored : ℕ → List ℕ → Listed → Stored
-stored n ws (listed vs p) = kept (n + length vs) (sets ws n vs) p
-stored n ws none = nothing
-
-unfoldable pub view : Indices → List ℕ → Stored
-view (x.Read n p) ws = kept n ws p
-view x.Nothing ws = nothing
-
 -- name, indices, line end
 abbrev pub ended : List ℕ → Listed → Listed
 ended s (listed vs b) = onPlace (lineEnd s b) none (λ c. listed vs c)
@@ -103,33 +86,83 @@ ended s none = none
 unfoldable pub indexLine : List ℕ → ℕ → Listed
 indexLine s i = onPlace (wordAt index= s i) none (λ a. ended s (indicesAt mostIndices s a))
 
--- the outcome: document 01's number, the request, and the indices, which the lent slice then holds with zeros behind
-pub record Outcome : Type 0 where
-  pub request : Request
-  pub wanted : List ℕ
-
-abbrev pub refusedBy : Refusal → Outcome
-refusedBy x = record { request = r.Refused x; wanted = [] }
-
 abbrev pub onHeader {ℓ} : {A : Type ℓ} → Header → A → (DexHeader → ℕ → A) → A
 onHeader (h.At d a) b g = g d a
 onHeader h.Nothing b g = b
 
+-- what a text says, whatever is lent: the record, the kind and the indices, or a line that isn't as it must be
+pub data Said : Type 0 where
+  said : DexHeader → ℕ → List ℕ → Said
+  malformed : Said
+
 -- the lines must end the text
-abbrev pub asked : List ℕ → DexHeader → ℕ → Listed → Outcome
-asked s d kind (listed vs c) =
-    cond (eqb c (length s)) (record { request = r.Asked d kind (length vs); wanted = vs }) (refusedBy BadRequest)
-asked s d kind none = refusedBy BadRequest
+abbrev pub toTheEnd : List ℕ → DexHeader → ℕ → Listed → Said
+toTheEnd s d kind (listed vs c) = cond (eqb c (length s)) (said d kind vs) malformed
+toTheEnd s d kind none = malformed
 
--- room counts the lent words: 16 are needed
+unfoldable pub saidBy : List ℕ → Said
+saidBy s =
+    onHeader (headerLines s) malformed (λ d a.
+    onNumber (kindLine s a) malformed (λ kind b.
+    toTheEnd s d kind (indexLine s b)))
+
+-- the outcome: document 01's number, 0 for success, the record, the kind, and the indices, which the lent slice then holds with zeros behind
+pub record Outcome : Type 0 where
+  pub number : ℕ
+  pub header : DexHeader
+  pub kind : ℕ
+  pub indices : List ℕ
+
+abbrev pub noTable : Table
+noTable = record { off = 0; size = 0 }
+
+-- zeros in every field
+abbrev pub noHeader : DexHeader
+noHeader = record {
+  strings = noTable;
+  types = noTable;
+  prototypes = noTable;
+  fields = noTable;
+  methods = noTable;
+  classes = noTable;
+  mapoff = 0;
+}
+
+abbrev pub refused : ℕ → Outcome
+refused n = record { number = n; header = noHeader; kind = 0; indices = [] }
+
+-- 4 only once the whole request is read: more indices than lent words
+abbrev pub fitted : ℕ → Said → Outcome
+fitted room (said d kind vs) =
+    cond (leb (length vs) room) (record { number = 0; header = d; kind = kind; indices = vs }) (refused 4)
+fitted room malformed = refused 14
+
+-- 14, 4; room counts the lent words
 unfoldable pub requestOf : List ℕ → ℕ → Outcome
-requestOf s room =
-    cond (leb mostIndices room)
-    (onHeader (headerLines s) (refusedBy BadRequest) (λ d a.
-    onNumber (kindLine s a) (refusedBy BadRequest) (λ kind b.
-    asked s d kind (indexLine s b))))
-    (refusedBy LentTooShort)
+requestOf s room = fitted room (saidBy s)
 
+-- ---- what an answer says: a refusal its number and else zeros
+
+abbrev pub requestNumber : Request → ℕ
+requestNumber (r.Asked d kind count) = 0
+requestNumber (r.Refused x) = refusalNumber x
+
+abbrev pub requestHeader : Request → DexHeader
+requestHeader (r.Asked d kind count) = d
+requestHeader (r.Refused x) = noHeader
+
+abbrev pub requestKind : Request → ℕ
+requestKind (r.Asked d kind count) = kind
+requestKind (r.Refused x) = 0
+
+abbrev pub requestCount : Request → ℕ
+requestCount (r.Asked d kind count) = count
+requestCount (r.Refused x) = 0
+
+-- answer and lent words are the outcome's
 pub record Says (o : Outcome) (q : Request) (before after : List ℕ) : Type 0 where
-  pub request : q ≡ o .request
-  pub wanted : after ≡ padded (length before) (o .wanted)
+  pub number : requestNumber q ≡ o .number
+  pub header : requestHeader q ≡ o .header
+  pub kind : requestKind q ≡ o .kind
+  pub count : requestCount q ≡ length (o .indices)
+  pub wanted : after ≡ padded (length before) (o .indices)

@@ -1,6 +1,7 @@
 // The request of the program `refs`, whole: document 01, "Program". The header record's seven lines, the kind and the wanted indices.
 ghost use mathlib.Core.Path.{_≡_};
-ghost use Rattle.request.specs.Request.{headerLines, restLines, indicesAt, indexLine, stored, view, mostIndices, requestOf, Says};
+ghost use Rattle.request.specs.Request.{headerLines, restLines, indicesAt, indexLine, mostIndices, requestOf, Says};
+ghost use Rattle.request.specs.Steps.{stored, view, RefusedBy};
 ghost use lib.ListN.{length};
 use refusal::Refusal;
 use request_lines::Pair;
@@ -124,39 +125,6 @@ fn read_indices(text: &[u8], at: usize, wanted: &mut [u32]) -> Indices
     Indices::Nothing
 }
 
-// The request that a text is. Both the answer and the indices say so: on a refusal all lent words are zero.
-pub fn read_request(text: &[u8], wanted: &mut [u32]) -> Request
-    ensures { λ r. ⌜ Says (requestOf (now (text .entry)) (length (now (wanted .entry)))) r (now (wanted .entry)) (now (wanted .exit)) ⌝ }
-{
-    words::clear(wanted);
-    if wanted.len() < 16 {
-        return Request::Refused(Refusal::LentTooShort);
-    }
-    let Header::At { header, next: a } = header_lines(text) else {
-        return Request::Refused(Refusal::BadRequest);
-    };
-    let Number::Value {
-        value: kind,
-        next: b,
-    } = request_lines::kind_line(text, a)
-    else {
-        return Request::Refused(Refusal::BadRequest);
-    };
-    let Indices::Read { count, next: c } = index_line(text, b, wanted) else {
-        words::clear(wanted);
-        return Request::Refused(Refusal::BadRequest);
-    };
-    if c != text.len() {
-        words::clear(wanted);
-        return Request::Refused(Refusal::BadRequest);
-    }
-    Request::Asked {
-        header: header,
-        kind: kind,
-        count: count,
-    }
-}
-
 // The line of the indices.
 fn index_line(text: &[u8], at: usize, wanted: &mut [u32]) -> Indices
     ensures { λ r. ⌜ view r (now (wanted .exit)) ≡ stored 0 (now (wanted .entry)) (indexLine (now (text .entry)) at) ⌝ }
@@ -173,5 +141,45 @@ fn index_line(text: &[u8], at: usize, wanted: &mut [u32]) -> Indices
     Indices::Read {
         count: count,
         next: c,
+    }
+}
+
+// A refusal, with every lent word zero.
+fn refuse(why: Refusal, wanted: &mut [u32]) -> Request
+    ensures { λ r. ⌜ RefusedBy why r (now (wanted .entry)) (now (wanted .exit)) ⌝ }
+{
+    words::fill(wanted, 0);
+    Request::Refused(why)
+}
+
+// The request that a text is. A bad line is said first, and words that are too few only once all indices are read. On a refusal all
+// lent words are zero.
+pub fn read_request(text: &[u8], wanted: &mut [u32]) -> Request
+    ensures { λ r. ⌜ Says (requestOf (now (text .entry)) (length (now (wanted .entry)))) r (now (wanted .entry)) (now (wanted .exit)) ⌝ }
+{
+    words::clear(wanted);
+    let Header::At { header, next: a } = header_lines(text) else {
+        return refuse(Refusal::BadRequest, wanted);
+    };
+    let Number::Value {
+        value: kind,
+        next: b,
+    } = request_lines::kind_line(text, a)
+    else {
+        return refuse(Refusal::BadRequest, wanted);
+    };
+    let Indices::Read { count, next: c } = index_line(text, b, wanted) else {
+        return refuse(Refusal::BadRequest, wanted);
+    };
+    if c != text.len() {
+        return refuse(Refusal::BadRequest, wanted);
+    }
+    if wanted.len() < count {
+        return refuse(Refusal::LentTooShort, wanted);
+    }
+    Request::Asked {
+        header: header,
+        kind: kind,
+        count: count,
     }
 }

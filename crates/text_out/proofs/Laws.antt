@@ -1,127 +1,183 @@
--- Laws of a text that grows in a lent slice.
---     Appends    appends-none, appends-next, appends-then, appends-named
---     Ends       ends-fit, ends-over, text-out
---     decimal    decimal-is
+-- Laws of the writers: what is written in two pieces is what is written in one, since a place one behind the end takes no byte.
+--     Writes     writes-none, writes-byte, writes-then, writes-named, writes-next
+--     Ends       ends-fit, ends-over
+--     textOut    text-out, text-room
+--     decimal    decimal-is, decimal-short
 -- Assumes nothing.
-use Prim.Native.Nat.{ℕ, zero, suc, _+_, _-_, _^_, _≤_, _<_, min}
-use native.Mathlib.Nat.{pow-le-pow-right, lt-of-lt-of-le, not-le-of-lt, le-trans}
+use Prim.Native.Nat.{ℕ, zero, suc, _+_, _-_, _/_, _%_, _^_, _≤_, _<_, min}
+use native.Mathlib.Nat.{pow-le-pow-right, lt-of-lt-of-le, not-le-of-lt, le-trans, add-zero}
 use native.Mathlib.Omega.{arith}
 use mathlib.Core.Path.{_≡_, refl, sym, ap, _∙_}
 use mathlib.Core.Logic.{⊎-elim}
 use mathlib.Core.List.{List, [], _∷_, _++_, append-assoc, append-nil}
-use lib.ListN.{length, take, set, getD, length-append, length-take}
-use lib.Seq.{take-all, take-nil, take-suc, take-append-le, set-out}
-use lib.Dec.{ltb, lit<, lit≤}
-use borrow.Author.Tests.{le-leb, lt-leb, ltb-true, ltb-false}
-use Rattle.io.specs.Digits.{digits, Fewest}
+use lib.ListN.{length, take, set, getD, length-append, length-replicate}
+use lib.Seq.{take-suc, set-out, sets, length-sets}
+use lib.Dec.{leb, ltb, lit<, lit≤}
+use borrow.Author.Tests.{le-leb, lt-leb, lt-ltb, le-ltb, leb-true, leb-false, ltb-true, ltb-false}
+use Rattle.io.specs.Digits.{glyph, digits, Fewest}
 use Rattle.words.specs.Padded.{zeros, padded}
-use Rattle.words.proofs.Padded.{length-padded, padded-none, padded-push}
-use Rattle.words.proofs.Shared.{case}
+use Rattle.words.proofs.Padded.{padded-none, sets-zeros}
+use Rattle.words.proofs.Shared.{case, cond-elim}
 use Rattle.refusal.specs.declared.Refusal.the-variants.{LentTooShort}
 use Rattle.refusal.specs.declared.Answer.{Answer}
 use Rattle.refusal.specs.declared.Answer.the-variants.{Done, Refused}
 use Rattle.refusal.specs.Outcomes.{Gives}
-use Rattle.refusal.proofs.Outcomes.{gives-refused, gives-done}
 use Rattle.text_out.specs.Text.{reach, decimal, feed, textOut}
-use Rattle.text_out.specs.Cursor.{Cursor, Appends, Ends}
+use Rattle.text_out.specs.Write.{behind, Writes, endAt, Ends}
 
-cursor-length : (n : ℕ) (ws : List ℕ) (at : ℕ) (xs : List ℕ) → Cursor n ws at xs → length ws ≡ n
-cursor-length n ws at xs c = ap length (c .bytes-are) ∙ length-padded n (take n xs) (simp length-take (omega arith))
+-- ---- bytes behind bytes
 
-cursor-start : (n : ℕ) (ws : List ℕ) → ws ≡ zeros n → Cursor n ws 0 []
-cursor-start n ws e =
-    record { bytes-are = e ∙ sym (padded-none n) ∙ ap (padded n) (sym (take-nil n)); place = omega arith }
+sets-append : (l : List ℕ) (i : ℕ) (xs ys : List ℕ) → sets l i (xs ++ ys) ≡ sets (sets l i xs) (i + length xs) ys
+sets-append l i [] ys = ap (λ (k : ℕ). sets l k ys) (sym (add-zero i))
+sets-append l i (x ∷ xs) ys =
+    let e : suc i + length xs ≡ i + suc (length xs) = omega arith in
+    sets-append (set l i x) (suc i) xs ys ∙ ap (λ (k : ℕ). sets (sets (set l i x) (suc i) xs) k ys) e
 
--- ---- a byte more
+-- nothing is written past the end
+sets-out : (l : List ℕ) (i : ℕ) (vs : List ℕ) → length l ≤ i → sets l i vs ≡ l
+sets-out l i [] h = refl
+sets-out l i (v ∷ vs) h = ap (λ (k : List ℕ). sets k (suc i) vs) (set-out l i v h) ∙ sets-out l (suc i) vs (omega arith)
 
-push-fits : (n : ℕ) (ws : List ℕ) (at b : ℕ) (xs : List ℕ) → Cursor n ws at xs → length xs < n
-    → Cursor n (set ws at b) (min (at + 1) (length ws + 1)) (xs ++ b ∷ [])
-push-fits n ws at b xs c h =
-    let l = cursor-length n ws at xs c in
-    let p : length xs ≡ at = omega (arith, c .place) in
-    let m : length (xs ++ b ∷ []) ≡ length xs + 1 = length-append xs (b ∷ []) in
-    let e : ws ≡ padded n xs = c .bytes-are ∙ ap (padded n) (take-all n xs (omega arith)) in
-    record {
-      bytes-are = ap (λ (l : List ℕ). set l at b) e ∙ padded-push n xs at b p (omega arith) ∙ ap (padded n) (sym (take-all n (xs ++ b ∷ []) (omega arith)));
-      place = omega arith;
-    }
+place-then : (n p : ℕ) (bs cs : List ℕ) → behind n (behind n p bs) cs ≡ behind n p (bs ++ cs)
+unfolding behind
+place-then n p [] cs = refl
+place-then n p (b ∷ bs) [] = ap (λ (l : List ℕ). behind n p (b ∷ l)) (sym (append-nil bs))
+place-then n p (b ∷ bs) (c ∷ cs) = omega (arith, length-append bs (c ∷ cs))
 
-push-over : (n : ℕ) (ws : List ℕ) (at b : ℕ) (xs : List ℕ) → Cursor n ws at xs → n ≤ length xs
-    → Cursor n (set ws at b) (min (at + 1) (length ws + 1)) (xs ++ b ∷ [])
-push-over n ws at b xs c h =
-    let l = cursor-length n ws at xs c in
-    let p : n ≤ at = omega (arith, c .place) in
-    let m : length (xs ++ b ∷ []) ≡ length xs + 1 = length-append xs (b ∷ []) in
-    record {
-      bytes-are = set-out ws at b (omega arith) ∙ c .bytes-are ∙ ap (padded n) (sym (take-append-le n xs (b ∷ []) h));
-      place = omega arith;
-    }
-
-push : (n : ℕ) (ws : List ℕ) (at b : ℕ) (xs : List ℕ) → Cursor n ws at xs
-    → Cursor n (set ws at b) (min (at + 1) (length ws + 1)) (xs ++ b ∷ [])
-push n ws at b xs c =
+-- from the place behind them, or from where they would end
+bytes-then : (l : List ℕ) (p : ℕ) (bs cs : List ℕ) → sets (sets l p bs) (behind (length l) p bs) cs ≡ sets l p (bs ++ cs)
+unfolding behind
+bytes-then l p [] cs = refl
+bytes-then l p (b ∷ bs) cs =
     ⊎-elim
-    (λ h. push-fits n ws at b xs c (ltb-true _ _ h))
-    (λ h. push-over n ws at b xs c (ltb-false _ _ h))
-    (case (ltb (length xs) n))
+    (λ t.
+    let h : p + length (b ∷ bs) ≤ length l = leb-true (p + length (b ∷ bs)) (length l) t in
+    let e : min (p + length (b ∷ bs)) (length l + 1) ≡ p + length (b ∷ bs) = omega arith in
+    ap (λ (k : ℕ). sets (sets l p (b ∷ bs)) k cs) e ∙ sym (sets-append l p (b ∷ bs) cs))
+    (λ t.
+    let h : length l < p + length (b ∷ bs) = leb-false (p + length (b ∷ bs)) (length l) t in
+    let k : length (sets l p (b ∷ bs)) ≡ length l = length-sets l p (b ∷ bs) in
+    sets-out (sets l p (b ∷ bs)) (min (p + length (b ∷ bs)) (length l + 1)) cs (omega arith)
+    ∙ sym (sets-append l p (b ∷ bs) cs ∙ sets-out (sets l p (b ∷ bs)) (p + length (b ∷ bs)) cs (omega arith)))
+    (case (leb (p + length (b ∷ bs)) (length l)))
 
--- what `put_byte` says
-appends-byte : (ws : List ℕ) (at b : ℕ) (ws′ : List ℕ) (at′ : ℕ) → ws′ ≡ set ws at b → at′ ≡ min (at + 1) (length ws + 1)
-    → Appends ws at (b ∷ []) ws′ at′
-appends-byte ws at b ws′ at′ e p = rw (e, p) (record { grown = λ n xs c. push n ws at b xs c })
+writes-length : (a : List ℕ) (p : ℕ) (bs b : List ℕ) (q : ℕ) → Writes a p bs b q → length b ≡ length a
+writes-length a p bs b q x = ap length (x .written) ∙ length-sets a p bs
 
-pub appends-none : (ws : List ℕ) (at : ℕ) → Appends ws at [] ws at
-appends-none ws at = record { grown = λ n xs c. rw (append-nil xs) c }
+pub writes-none : (a : List ℕ) (p : ℕ) → Writes a p [] a p
+unfolding behind
+writes-none a p = record { written = refl; place = refl }
 
 -- one behind another
-pub appends-then : (a : List ℕ) (p : ℕ) (bs b : List ℕ) (q : ℕ) (cs c : List ℕ) (r : ℕ) → Appends a p bs b q → Appends b q cs c r
-    → Appends a p (bs ++ cs) c r
-appends-then a p bs b q cs c r x y =
-    record { grown = λ n xs k. rw (← append-assoc xs bs cs) (y .grown n (xs ++ bs) (x .grown n xs k)) }
+pub writes-then : (a : List ℕ) (p : ℕ) (bs b : List ℕ) (q : ℕ) (cs c : List ℕ) (r : ℕ) → Writes a p bs b q → Writes b q cs c r
+    → Writes a p (bs ++ cs) c r
+writes-then a p bs b q cs c r x y =
+    let n = writes-length a p bs b q x in
+    record {
+      written = y .written ∙ (rw (x .written, x .place) (bytes-then a p bs cs));
+      place = y .place ∙ (rw (n, x .place) (place-then (length a) p bs cs));
+    }
 
 -- a name and its number behind
-pub appends-named : (a : List ℕ) (p : ℕ) (bs b : List ℕ) (q : ℕ) (name digits : List ℕ) (c : List ℕ) (r : ℕ) → Appends a p bs b q
-    → Appends b q (name ++ digits) c r → Appends a p (bs ++ name ++ digits) c r
-appends-named a p bs b q name digits c r x y = rw (append-assoc bs name digits) (appends-then a p bs b q (name ++ digits) c r x y)
+pub writes-named : (a : List ℕ) (p : ℕ) (bs b : List ℕ) (q : ℕ) (name digits : List ℕ) (c : List ℕ) (r : ℕ) → Writes a p bs b q
+    → Writes b q (name ++ digits) c r → Writes a p (bs ++ name ++ digits) c r
+writes-named a p bs b q name digits c r x y = rw (append-assoc bs name digits) (writes-then a p bs b q (name ++ digits) c r x y)
 
 -- the first i bytes, and one more
-pub appends-next : (a : List ℕ) (p : ℕ) (bs b : List ℕ) (q i : ℕ) (c : List ℕ) (r : ℕ) → i < length bs → Appends a p (take i bs) b q
-    → c ≡ set b q (getD bs i 0) → r ≡ min (q + 1) (length b + 1) → Appends a p (take (i + 1) bs) c r
-appends-next a p bs b q i c r h x e m =
+pub writes-next : (a : List ℕ) (p : ℕ) (bs b : List ℕ) (q i : ℕ) (c : List ℕ) (r : ℕ) → i < length bs → Writes a p (take i bs) b q
+    → Writes b q (getD bs i 0 ∷ []) c r → Writes a p (take (i + 1) bs) c r
+writes-next a p bs b q i c r h x y =
     let s : i + 1 ≡ suc i = omega arith in
-    rw (s, take-suc bs i 0 h) (appends-then a p (take i bs) b q (getD bs i 0 ∷ []) c r x (appends-byte b q (getD bs i 0) c r e m))
+    rw (s, take-suc bs i 0 h) (writes-then a p (take i bs) b q (getD bs i 0 ∷ []) c r x y)
 
--- ---- the end
+-- what `put_byte` does, and where it does nothing
+pub byte-fits : (a : List ℕ) (p v : ℕ) → p < length a → Writes a p (v ∷ []) (set a p v) (p + 1)
+unfolding behind
+byte-fits a p v h = record { written = refl; place = omega arith }
 
--- a text that fits, and one that doesn't
-fits : (n : ℕ) (ws : List ℕ) (at : ℕ) (xs : List ℕ) → Cursor n ws at xs → at ≤ length ws → (whole : List ℕ) → length whole ≡ n
-    → Gives (textOut xs n) (Done at) whole ws
+pub byte-over : (a : List ℕ) (p v : ℕ) → length a ≤ p → Writes a p (v ∷ []) a (length a + 1)
+unfolding behind
+byte-over a p v h = record { written = sym (set-out a p v h); place = omega arith }
+
+-- ---- a line's end
+
+module _ (a : List ℕ) (p : ℕ) (b : List ℕ) (end : ℕ) (line : Writes a p feed b end) where
+  place : end ≡ min (p + 1) (length a + 1)
+  unfolding behind
+  place = line .place
+
+  pub ends-fit : end ≤ length b → Ends (endAt a p) (Done end) b
+  unfolding endAt
+  ends-fit h =
+      let n = writes-length a p feed b end line in
+      let l : p < length a = omega (arith, place) in
+      rw (lt-ltb p (length a) l) (record { number = refl; count = omega (arith, place); bytes = line .written })
+
+  pub ends-over : (after : List ℕ) → length b < end → after ≡ zeros (length b) → Ends (endAt a p) (Refused LentTooShort) after
+  unfolding endAt
+  ends-over after h z =
+      let n = writes-length a p feed b end line in
+      let l : length a ≤ p = omega (arith, place) in
+      rw (le-ltb p (length a) l) (record { number = refl; count = refl; bytes = z ∙ ap zeros n })
+
+-- ---- a text from the start of cleared bytes
+
+from-start : (n : ℕ) (text : List ℕ) → behind n 0 text ≡ min (length text) (n + 1)
+unfolding behind
+from-start n [] = omega arith
+from-start n (b ∷ bs) = omega arith
+
+module _ (whole a text b : List ℕ) (p : ℕ) (r : Answer) (c : List ℕ) (z : a ≡ zeros (length whole)) (x : Writes a 0 text b p) where
+  lent : length a ≡ length whole
+  lent = ap length z ∙ length-replicate (length whole) 0
+
+  end-place : p ≡ min (length text) (length whole + 1)
+  end-place = x .place ∙ (ap (λ (n : ℕ). behind n 0 text) lent ∙ from-start (length whole) text)
+
+  long : length (text ++ feed) ≡ length text + 1
+  long = length-append text feed
+
+  fits : length (text ++ feed) ≤ length whole → Ends (endAt b p) r c → Gives (textOut (text ++ feed) (length whole)) r whole c
+  unfolding textOut endAt
+  fits h e =
+      let n = writes-length a 0 text b p x in
+      let q : p ≡ 0 + length text = omega (arith, end-place, long) in
+      let l : p < length b = omega (arith, long, lent) in
+      let f = rw (lt-ltb p (length b) l) at e in
+      let w : set b p 10 ≡ sets a 0 (text ++ feed) = rw (x .written, q) (sym (sets-append a 0 text feed)) in
+      rw (le-leb (length (text ++ feed)) (length whole) h) (record {
+        number = f .number;
+        count = f .count ∙ omega (arith, long);
+        words = f .bytes ∙ (w ∙ sets-zeros (length whole) (text ++ feed) z h);
+      })
+
+  over : length whole < length (text ++ feed) → Ends (endAt b p) r c → Gives (textOut (text ++ feed) (length whole)) r whole c
+  unfolding textOut endAt
+  over h e =
+      let n = writes-length a 0 text b p x in
+      let l : length b ≤ p = omega (arith, end-place, long, lent) in
+      let f = rw (le-ltb p (length b) l) at e in
+      rw (lt-leb (length (text ++ feed)) (length whole) h) (record {
+        number = f .number;
+        count = f .count;
+        words = f .bytes ∙ (ap zeros (n ∙ lent) ∙ sym (padded-none (length whole)));
+      })
+
+  pub text-out : Ends (endAt b p) r c → Gives (textOut (text ++ feed) (length whole)) r whole c
+  text-out e =
+      ⊎-elim
+      (λ t. fits (leb-true _ _ t) e)
+      (λ t. over (leb-false _ _ t) e)
+      (case (leb (length (text ++ feed)) (length whole)))
+
+-- more bytes never turn a text into a refusal
+pub text-room : (text : List ℕ) (m n : ℕ) → m ≤ n → textOut text m .number ≡ 0 → textOut text n ≡ textOut text m
 unfolding textOut
-fits n ws at xs c h whole e =
-    let l = cursor-length n ws at xs c in
-    let k : length xs ≤ n = omega (arith, c .place) in
-    gives-done _ whole _ at xs (rw (le-leb (length xs) n k) refl) (omega (arith, c .place)) (c .bytes-are ∙ rw (take-all n xs k, e) refl)
-
-over : (n : ℕ) (ws : List ℕ) (at : ℕ) (xs : List ℕ) → Cursor n ws at xs → length ws < at → (whole : List ℕ) → length whole ≡ n
-    → (after : List ℕ) → after ≡ zeros (length ws) → Gives (textOut xs n) (Refused LentTooShort) whole after
-unfolding textOut
-over n ws at xs c h whole e after z =
-    let l = cursor-length n ws at xs c in
-    let k : n < length xs = omega (arith, c .place) in
-    gives-refused _ whole _ LentTooShort (rw (lt-leb (length xs) n k) refl) (z ∙ ap zeros (l ∙ sym e))
-
-module _ (ws : List ℕ) (at : ℕ) (b : List ℕ) (end : ℕ) (line : Appends ws at feed b end) where
-  pub ends-fit : end ≤ length b → Ends ws at (Done end) b
-  ends-fit h = record { ended = λ n xs c whole e. fits n b end (xs ++ feed) (line .grown n xs c) h whole e }
-
-  pub ends-over : (after : List ℕ) → length b < end → after ≡ zeros (length b) → Ends ws at (Refused LentTooShort) after
-  ends-over after h z = record { ended = λ n xs c whole e. over n b end (xs ++ feed) (line .grown n xs c) h whole e after z }
-
--- a line written from the start of cleared bytes
-pub text-out : (whole a : List ℕ) (text b : List ℕ) (at : ℕ) (r : Answer) (c : List ℕ) → a ≡ zeros (length whole)
-    → Appends a 0 text b at → Ends b at r c
-    → Gives (textOut (text ++ feed) (length whole)) r whole c
-text-out whole a text b at r c z x y = y .ended (length whole) text (x .grown (length whole) [] (cursor-start (length whole) a z)) whole refl
+text-room text m n h e =
+    ⊎-elim
+    (λ t. let l : length text ≤ m = leb-true (length text) m t in rw (le-leb (length text) m l, le-leb (length text) n (omega arith)))
+    (λ t. let z : _≡_ {A = ℕ} 4 0 = rw t at e in absurd (omega arith))
+    (case (leb (length text) m))
 
 -- ---- decimal numbers
 
@@ -164,3 +220,26 @@ decimal-is n r h f =
     let e : reach 19 n ≡ r - 1 = reach-is 19 n (r - 1) small (λ p. f .2 (omega arith)) (rw s (f .1)) in
     let k : r ≡ reach 19 n + 1 = omega (arith, f .0) in
     ap (λ (m : ℕ). digits 10 m n) k
+
+digits-length : (k n : ℕ) → length (digits 10 k n) ≡ k
+digits-length zero n = refl
+digits-length (suc k) n = length-append (digits 10 k (n / 10)) (glyph (n % 10) ∷ []) ∙ omega (arith, digits-length k (n / 10))
+
+reach-below : (k n j : ℕ) → n < 10 ^ suc j → reach k n ≤ j
+unfolding reach
+reach-below zero n j h = omega arith
+reach-below (suc k) n j h =
+    cond-elim (λ (r : ℕ). r ≤ j) (leb (10 ^ suc k) n) (suc k) (reach k n)
+    (λ t.
+    ⊎-elim
+    (λ e. absurd (not-le-of-lt h (le-trans (ten-mono (ltb-true j (suc k) e)) (leb-true (10 ^ suc k) n t))))
+    (λ e. ltb-false j (suc k) e)
+    (case (ltb j (suc k))))
+    (λ t. reach-below k n j h)
+
+-- a word has at most ten digits
+pub decimal-short : (n : ℕ) → n < 2 ^ 32 → length (decimal n) ≤ 10
+unfolding decimal
+decimal-short n h =
+    let lim : 2 ^ 32 ≤ 10 ^ 10 = lit≤ tt in
+    omega (arith, digits-length (reach 19 n + 1) n, reach-below 19 n 9 (lt-of-lt-of-le h lim))

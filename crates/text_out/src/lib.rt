@@ -1,11 +1,10 @@
 // Text written into a lent slice of bytes, piece by piece: bytes and decimal numbers, each at a place, and at last a line feed. Text that
 // doesn't fit is refused with 4, and then every lent byte is zero.
 ghost use mathlib.Core.Path.{_≡_};
-ghost use mathlib.Core.List.{_++_};
-ghost use lib.ListN.{length, replicate, set};
-ghost use Prim.Native.Nat.{_+_, min};
+ghost use mathlib.Core.List.{[], _∷_, _++_};
+ghost use lib.ListN.{length, replicate};
 ghost use Rattle.text_out.specs.Text.{decimal};
-ghost use Rattle.text_out.specs.Cursor.{Appends, Ends};
+ghost use Rattle.text_out.specs.Write.{Writes, endAt, Ends};
 use refusal::Answer;
 use refusal::Refusal;
 
@@ -20,10 +19,9 @@ pub fn clear(out: &mut [u8])
     }
 }
 
-// A byte at a place, and the place behind it. Past the end nothing is written, and the place stays one behind the end.
+// A byte at a place, and the place behind it. Past the end nothing is written, and the place is one behind the end.
 fn put_byte(out: &mut [u8], at: usize, b: u8) -> usize
-    ensures { λ r. ⌜ now (out .exit) ≡ set (now (out .entry)) at b ⌝ }
-    ensures { λ r. ⌜ r ≡ min (at + 1) (length (now (out .entry)) + 1) ⌝ }
+    ensures { λ r. ⌜ Writes (now (out .entry)) at (b ∷ []) (now (out .exit)) r ⌝ }
 {
     if at < out.len() {
         out[at] = b;
@@ -34,7 +32,7 @@ fn put_byte(out: &mut [u8], at: usize, b: u8) -> usize
 
 // Bytes at a place, and the place behind them.
 pub fn put(out: &mut [u8], at: usize, bytes: &[u8]) -> usize
-    ensures { λ r. ⌜ Appends (now (out .entry)) at (now (bytes .entry)) (now (out .exit)) r ⌝ }
+    ensures { λ r. ⌜ Writes (now (out .entry)) at (now (bytes .entry)) (now (out .exit)) r ⌝ }
 {
     let mut p = at;
     let mut i = 0;
@@ -47,7 +45,7 @@ pub fn put(out: &mut [u8], at: usize, bytes: &[u8]) -> usize
 
 // A number's digits, without leading zeros.
 pub fn put_number(out: &mut [u8], at: usize, n: u64) -> usize
-    ensures { λ r. ⌜ Appends (now (out .entry)) at (decimal n) (now (out .exit)) r ⌝ }
+    ensures { λ r. ⌜ Writes (now (out .entry)) at (decimal n) (now (out .exit)) r ⌝ }
 {
     let mut text = [0u8; 20];
     let k = io::decimal(n, &mut text);
@@ -56,7 +54,7 @@ pub fn put_number(out: &mut [u8], at: usize, n: u64) -> usize
 
 // A name, and a number behind it.
 pub fn put_named(out: &mut [u8], at: usize, name: &[u8], n: u64) -> usize
-    ensures { λ r. ⌜ Appends (now (out .entry)) at (now (name .entry) ++ decimal n) (now (out .exit)) r ⌝ }
+    ensures { λ r. ⌜ Writes (now (out .entry)) at (now (name .entry) ++ decimal n) (now (out .exit)) r ⌝ }
 {
     let a = put(out, at, name);
     put_number(out, a, n)
@@ -64,7 +62,7 @@ pub fn put_named(out: &mut [u8], at: usize, name: &[u8], n: u64) -> usize
 
 // A line feed at the text's end, and the answer: refused where that lies behind the lent bytes.
 pub fn end_line(out: &mut [u8], at: usize) -> Answer
-    ensures { λ r. ⌜ Ends (now (out .entry)) at r (now (out .exit)) ⌝ }
+    ensures { λ r. ⌜ Ends (endAt (now (out .entry)) at) r (now (out .exit)) ⌝ }
 {
     let end = put(out, at, b"\n");
     if out.len() < end {

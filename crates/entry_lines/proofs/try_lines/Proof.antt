@@ -1,18 +1,36 @@
+-- The first refusal among all lines is the first among those still to be tried, as long as none was refused. Assumes nothing.
+use Rattle.refusal.specs.declared.Refusal.the-variants.{LentTable}
 use Rattle.entry_lines.specs.Line.{lineAt, firstRefused}
-use Rattle.entry_lines.proofs.Laws.{gives-as, gives-room, try-start, try-on, try-refused, try-done}
-use mathlib.Core.Path.{_≡_, refl}
+use Rattle.entry_lines.proofs.Laws.{unlike, likewise, gives-as, gives-room, try-start, try-on, try-refused, try-done, tried-unlike, tried-alike, tries-refused, tries-done}
+use mathlib.Core.Path.{_≡_, refl, sym, _∙_}
 use Prim.Native.Nat.{_≤_, _-_}
 use lib.ListN.{length}
 use borrow.Author.Needs.{needs}
 use native.Mathlib.Omega.{arith}
 use Rattle.entry_lines.proofs.try_lines.Statement.{statement}
 use Rattle.entry_lines.proofs.try_lines.Tie as tie
+use Rattle.words.proofs.clear.Reads as clear-reads′
 
 abbrev Inv-loop : tie.InvT-loop
 Inv-loop offs marks answers shares mids₀ text₀ i₀ mids text i = (i ≤ length offs) × (length mids ≡ length mids₀) × (length text ≡ length text₀) × (firstRefused (lineAt offs marks answers shares (length mids₀) (length text₀)) (length offs - i) i ≡ firstRefused (lineAt offs marks answers shares (length mids₀) (length text₀)) (length offs) 0)
 
 abbrev μ-loop : tie.MeasureT-loop
 μ-loop offs marks answers shares mids₀ text₀ i₀ mids text i = length offs - i
+
+alike-requires : tie.Need-alike-requires Inv-loop μ-loop
+alike-requires c κs = search needs
+
+refuse-requires : tie.Need-refuse-requires Inv-loop μ-loop
+refuse-requires c κs = search needs
+
+same-length : tie.Need-same-length Inv-loop μ-loop
+same-length c = search needs
+
+same-length-2 : tie.Need-same-length-2 Inv-loop μ-loop
+same-length-2 c = search needs
+
+returns : tie.Need-returns Inv-loop μ-loop
+returns c = tries-refused _ _ LentTable _ _ _ _ _ _ _ (sym (tried-unlike _ _ _ _ _ _ (unlike (c .before .before .before .before .before .before .before .if1 .taken) (c .before .before .before .before .before .before .before .before .alike .ensures)))) refl refl (c .before .before .before .before .refuse .ensures)
 
 loop-holds : tie.Need-loop-holds Inv-loop μ-loop
 loop-holds c = (omega arith, refl, refl, try-start _ _)
@@ -23,20 +41,24 @@ line-at-requires c κs = search needs
 enum-known-why : tie.Need-enum-known-why Inv-loop μ-loop
 enum-known-why c = search needs
 
-same-length : tie.Need-same-length Inv-loop μ-loop
-same-length c = search needs
+refuse-requires-2 : tie.Need-refuse-requires-2 Inv-loop μ-loop
+refuse-requires-2 c κs = search needs
 
-same-length-2 : tie.Need-same-length-2 Inv-loop μ-loop
-same-length-2 c = search needs
+same-length-3 : tie.Need-same-length-3 Inv-loop μ-loop
+same-length-3 c = search needs
 
-returns : tie.Need-returns Inv-loop μ-loop
-returns c =
-    let l = c .before .before .before .before .before .before .before .before .before .before .before .loop in
-    let a = c .before .before .before .before .before .before .before .before .before .before .before .before .before .before .before .before .before .before .args in
+same-length-4 : tie.Need-same-length-4 Inv-loop μ-loop
+same-length-4 c = search needs
+
+returns-2 : tie.Need-returns-2 Inv-loop μ-loop
+returns-2 c =
+    let l = c .before .before .before .before .before .before .before .before .before .before .before .before .before .before .before .before .before .before .loop in
+    let a = c .before .before .before .before .before .before .before .before .before .before .before .before .before .before .before .before .before .before .before .before .before .before .before .before .before .before .before .args in
     let n = length (a .offs .now) in
     let f = lineAt (a .offs .now) (a .marks .now) (a .answers .now) (a .shares .now) (length (a .mids .now)) (length (a .text .now)) in
-    let g = gives-as {o = lineAt (a .offs .now) (a .marks .now) (a .answers .now) (a .shares .now) (length (l .mids)) (length (l .text)) (l .i)} (c .before .why .given .1) (c .before .before .before .before .before .before .before .line-at .ensures) in
-    try-refused f n (l .i) _ (l .text) _ (omega arith) (gives-room (a .offs .now) (a .marks .now) (a .answers .now) (a .shares .now) (l .i) (l .inv .1) (l .inv .2) g) (l .inv .3)
+    let g = gives-as {o = lineAt (a .offs .now) (a .marks .now) (a .answers .now) (a .shares .now) (length (l .mids)) (length (l .text)) (l .i)} (c .before .before .before .before .before .before .before .before .why .given .1) (c .before .before .before .before .before .before .before .before .before .before .before .before .before .before .line-at .ensures .line) in
+    let h = gives-room (a .offs .now) (a .marks .now) (a .answers .now) (a .shares .now) (l .i) (l .inv .1) (l .inv .2) g in
+    tries-refused _ _ _ _ _ (c .before .before .before .before .before .before .before .before .before .before .before .before .before .before .line-at .last .1 .1 .1 .1 .1 .1 .0) _ _ (c .before .before .before .before .before .before .before .before .before .before .before .before .before .before .line-at .last .1 .1 .1 .1 .1 .0) _ (try-refused f n (l .i) _ (l .text) _ (omega arith) h (l .inv .3) ∙ sym (tried-alike (a .offs .now) (a .marks .now) (a .answers .now) (a .shares .now) _ _ (likewise (c .before .before .before .before .before .before .before .before .before .before .before .before .before .before .before .before .before .before .before .if1 .left) (c .before .before .before .before .before .before .before .before .before .before .before .before .before .before .before .before .before .before .before .before .alike .ensures)))) (omega arith) (omega arith) (c .before .before .before .before .refuse2 .ensures)
 
 enum-told : tie.Need-enum-told Inv-loop μ-loop
 enum-told c = search needs
@@ -50,25 +72,32 @@ loop-less c = search needs
 loop-again : tie.Need-loop-again Inv-loop μ-loop
 loop-again c =
     let l = c .before .before .before .before .before .before .before .before .before .before .loop in
-    let a = c .before .before .before .before .before .before .before .before .before .before .before .before .before .before .before .before .before .args in
+    let a = c .before .before .before .before .before .before .before .before .before .before .before .before .before .before .before .before .before .before .before .args in
     let n = length (a .offs .now) in
     let f = lineAt (a .offs .now) (a .marks .now) (a .answers .now) (a .shares .now) (length (a .mids .now)) (length (a .text .now)) in
-    let g = gives-as {o = lineAt (a .offs .now) (a .marks .now) (a .answers .now) (a .shares .now) (length (l .mids)) (length (l .text)) (l .i)} (c .enum-told .given .1) (c .before .before .before .before .before .before .line-at .ensures) in
-    (omega arith, search needs, search needs, try-on f n (l .i) _ (l .text) _ (omega arith) (gives-room (a .offs .now) (a .marks .now) (a .answers .now) (a .shares .now) (l .i) (l .inv .1) (l .inv .2) g) (l .inv .3))
+    let g = gives-as {o = lineAt (a .offs .now) (a .marks .now) (a .answers .now) (a .shares .now) (length (l .mids)) (length (l .text)) (l .i)} (c .enum-told .given .1) (c .before .before .before .before .before .before .line-at .ensures .line) in
+    let h = gives-room (a .offs .now) (a .marks .now) (a .answers .now) (a .shares .now) (l .i) (l .inv .1) (l .inv .2) g in
+    (omega arith, search needs, search needs, try-on f n (l .i) _ (l .text) _ (omega arith) h (l .inv .3))
 
-same-length-3 : tie.Need-same-length-3 Inv-loop μ-loop
-same-length-3 c = search needs
+clear-requires : tie.Need-clear-requires Inv-loop μ-loop
+clear-requires c κs = search needs
 
-same-length-4 : tie.Need-same-length-4 Inv-loop μ-loop
-same-length-4 c = search needs
+clear-requires-2 : tie.Need-clear-requires-2 Inv-loop μ-loop
+clear-requires-2 c κs = search needs
 
-returns-2 : tie.Need-returns-2 Inv-loop μ-loop
-returns-2 c =
-    let l = c .before .loop in
-    let a = c .before .before .before .before .before .before .before .before .args in
+same-length-5 : tie.Need-same-length-5 Inv-loop μ-loop
+same-length-5 c = search needs
+
+same-length-6 : tie.Need-same-length-6 Inv-loop μ-loop
+same-length-6 c = search needs
+
+returns-3 : tie.Need-returns-3 Inv-loop μ-loop
+returns-3 c =
+    let l = c .before .before .before .before .before .before .before .before .before .loop in
+    let a = c .before .before .before .before .before .before .before .before .before .before .before .before .before .before .before .before .before .before .args in
     let n = length (a .offs .now) in
     let f = lineAt (a .offs .now) (a .marks .now) (a .answers .now) (a .shares .now) (length (a .mids .now)) (length (a .text .now)) in
-    try-done f n (l .i) (omega arith) (omega arith) (l .inv .3)
+    tries-done _ _ _ _ (l .text) _ _ (l .mids) _ (try-done f n (l .i) (omega arith) (l .inv .3) ∙ sym (tried-alike (a .offs .now) (a .marks .now) (a .answers .now) (a .shares .now) _ _ (likewise (c .before .before .before .before .before .before .before .before .before .before .if1 .left) (c .before .before .before .before .before .before .before .before .before .before .before .alike .ensures)))) (omega arith) (l .inv .2) (l .inv .1) (c .before .before .clear2 .ensures) (c .before .before .before .before .before .before .clear .ensures)
 
 pub try-lines-spec : {M : Type 1} → statement M
 try-lines-spec =
@@ -76,16 +105,24 @@ try-lines-spec =
     (tie.spec
     Inv-loop
     μ-loop
-    loop-holds
-    line-at-requires
-    enum-known-why
+    alike-requires
+    refuse-requires
     same-length
     same-length-2
     returns
+    loop-holds
+    line-at-requires
+    enum-known-why
+    refuse-requires-2
+    same-length-3
+    same-length-4
+    returns-2
     enum-told
     add-i
     loop-less
     loop-again
-    same-length-3
-    same-length-4
-    returns-2)
+    clear-requires
+    clear-requires-2
+    same-length-5
+    same-length-6
+    returns-3)

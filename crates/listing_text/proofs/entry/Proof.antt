@@ -1,6 +1,6 @@
 use mathlib.Core.List.{_++_}
 use Rattle.text_out.specs.Text.{decimal}
-use Rattle.text_out.proofs.Laws.{appends-then, appends-named, text-out}
+use Rattle.text_out.proofs.Laws.{writes-then, writes-named, text-out}
 use Rattle.listing_text.specs.Text.{midsText, off=, idx=, mids=, entryOut}
 use borrow.Author.Needs.{needs}
 use Rattle.listing_text.proofs.entry.Statement.{statement}
@@ -41,9 +41,9 @@ unfolding entryOut
 returns c =
     let a = c .before .before .before .before .before .before .before .before .before .before .before .before .before .before .before .before .before .before .before .before .before .before .before .before .before .before .before .before .before .args in
     text-out (a .out .now) (c .before .before .before .before .before .before .before .before .before .before .before .before .before .before .before .before .before .before .before .before .before .before .before .before .before .clear .last .0) (off= ++ decimal (a .off) ++ idx= ++ decimal (a .idx) ++ mids= ++ midsText (a .mids .now)) (c .before .before .before .before .before .before .put-mids .last .0) _ _ _ (c .before .before .before .before .before .before .before .before .before .before .before .before .before .before .before .before .before .before .before .before .before .before .before .before .before .clear .ensures)
-    (appends-then _ _ (off= ++ decimal (a .off) ++ idx= ++ decimal (a .idx) ++ mids=) (c .before .before .before .before .before .before .before .before .before .before .put .last .0) _ (midsText (a .mids .now)) _ _
-    (appends-then _ _ (off= ++ decimal (a .off) ++ idx= ++ decimal (a .idx)) (c .before .before .before .before .before .before .before .before .before .before .before .before .before .before .before .put-named2 .last .0) _ mids= _ _
-    (appends-named _ _ (off= ++ decimal (a .off)) (c .before .before .before .before .before .before .before .before .before .before .before .before .before .before .before .before .before .before .before .before .put-named .last .0) _ idx= (decimal (a .idx)) _ _ (c .before .before .before .before .before .before .before .before .before .before .before .before .before .before .before .before .before .before .before .before .put-named .ensures) (c .before .before .before .before .before .before .before .before .before .before .before .before .before .before .before .put-named2 .ensures))
+    (writes-then _ _ (off= ++ decimal (a .off) ++ idx= ++ decimal (a .idx) ++ mids=) (c .before .before .before .before .before .before .before .before .before .before .put .last .0) _ (midsText (a .mids .now)) _ _
+    (writes-then _ _ (off= ++ decimal (a .off) ++ idx= ++ decimal (a .idx)) (c .before .before .before .before .before .before .before .before .before .before .before .before .before .before .before .put-named2 .last .0) _ mids= _ _
+    (writes-named _ _ (off= ++ decimal (a .off)) (c .before .before .before .before .before .before .before .before .before .before .before .before .before .before .before .before .before .before .before .before .put-named .last .0) _ idx= (decimal (a .idx)) _ _ (c .before .before .before .before .before .before .before .before .before .before .before .before .before .before .before .before .before .before .before .before .put-named .ensures) (c .before .before .before .before .before .before .before .before .before .before .before .before .before .before .before .put-named2 .ensures))
     (c .before .before .before .before .before .before .before .before .before .before .put .ensures))
     (c .before .before .before .before .before .before .put-mids .ensures))
     (c .before .before .end-line .ensures)

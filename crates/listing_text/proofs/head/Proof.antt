@@ -7,7 +7,7 @@ use Rattle.refusal.specs.declared.Refusal.the-variants.{UnknownKind}
 use Rattle.refusal.proofs.Outcomes.{gives-refused}
 use Rattle.request_lines.specs.Lines.{kind=}
 use Rattle.text_out.specs.Text.{decimal}
-use Rattle.text_out.proofs.Laws.{appends-then, appends-named, text-out}
+use Rattle.text_out.proofs.Laws.{writes-then, writes-named, text-out}
 use Rattle.listing_text.specs.Text.{kindName, hits=}
 use Rattle.listing_text.proofs.Laws.{head-unknown, head-known}
 use borrow.Author.Needs.{needs}
@@ -59,8 +59,8 @@ returns-3 c =
     let a = c .before .before .before .before .before .before .before .before .before .before .before .before .before .before .before .before .before .before .before .before .before .before .before .before .before .args in
     rw (head-known (a .kind) (a .hits) (length (a .out .now)) (omega arith) (omega arith)) (
     text-out (a .out .now) (c .before .before .before .before .before .before .before .before .before .before .before .before .before .before .before .before .before .before .before .before .before .before .clear .last .0) (kind= ++ kindName (a .kind) ++ hits= ++ decimal (a .hits)) (c .before .before .before .before .before .before .put-named .last .0) _ _ _ (c .before .before .before .before .before .before .before .before .before .before .before .before .before .before .before .before .before .before .before .before .before .before .clear .ensures)
-    (appends-named _ _ (kind= ++ kindName (a .kind)) (c .before .before .before .before .before .before .before .before .before .before .before .put-kind .last .0) _ hits= (decimal (a .hits)) _ _
-    (appends-then _ _ kind= (c .before .before .before .before .before .before .before .before .before .before .before .before .before .before .before .put .last .0) _ (kindName (a .kind)) _ _ (c .before .before .before .before .before .before .before .before .before .before .before .before .before .before .before .put .ensures) (c .before .before .before .before .before .before .before .before .before .before .before .put-kind .ensures))
+    (writes-named _ _ (kind= ++ kindName (a .kind)) (c .before .before .before .before .before .before .before .before .before .before .before .put-kind .last .0) _ hits= (decimal (a .hits)) _ _
+    (writes-then _ _ kind= (c .before .before .before .before .before .before .before .before .before .before .before .before .before .before .before .put .last .0) _ (kindName (a .kind)) _ _ (c .before .before .before .before .before .before .before .before .before .before .before .before .before .before .before .put .ensures) (c .before .before .before .before .before .before .before .before .before .before .before .put-kind .ensures))
     (c .before .before .before .before .before .before .put-named .ensures))
     (c .before .before .end-line .ensures))
 

@@ -2,7 +2,7 @@ use native.Mathlib.Omega.{arith}
 use Prim.Native.Nat.{_-_}
 use lib.ListN.{length, getD, take, drop}
 use Rattle.text_out.specs.Text.{decimal}
-use Rattle.text_out.proofs.Laws.{appends-then}
+use Rattle.text_out.proofs.Laws.{writes-then}
 use Rattle.listing_text.specs.Text.{more}
 use Rattle.listing_text.proofs.Laws.{mids-some, mids-none}
 use borrow.Author.Needs.{needs}
@@ -48,7 +48,7 @@ same-length-2 c = search needs
 returns-2 : tie.Need-returns-2
 returns-2 c =
     let ms = c .before .before .before .before .before .before .before .before .before .before .before .before .before .args .mids .now in
-    rw (mids-some ms (omega arith)) (appends-then _ _ (decimal (getD ms 0 0)) (c .before .before .before .before .before .before .before .put-number .last .0) _ (more (take (length ms - 1) (drop 1 ms))) _ _ (c .before .before .before .before .before .before .before .put-number .ensures) (c .before .before .put-rest .ensures))
+    rw (mids-some ms (omega arith)) (writes-then _ _ (decimal (getD ms 0 0)) (c .before .before .before .before .before .before .before .put-number .last .0) _ (more (take (length ms - 1) (drop 1 ms))) _ _ (c .before .before .before .before .before .before .before .put-number .ensures) (c .before .before .put-rest .ensures))
 
 pub put-mids-spec : {M : Type 1} → statement M
 put-mids-spec = tie.close (tie.spec slice-aggregate-put put-requires same-length returns shared-slice-read-put-number cast-put-number put-number-requires sub-put-rest part-put-rest-start part-put-rest-end put-rest-requires same-length-2 returns-2)

@@ -3,7 +3,7 @@ use Prim.Native.Nat.{_-_, _≤_}
 use lib.ListN.{length, take}
 use lib.Seq.{take-all}
 use Rattle.listing_text.specs.Text.{more}
-use Rattle.text_out.specs.Cursor.{Appends}
+use Rattle.text_out.specs.Write.{Writes}
 use Rattle.listing_text.proofs.Laws.{rest-none, more-next}
 use borrow.Author.Needs.{needs}
 use native.Mathlib.Omega.{arith}
@@ -11,7 +11,7 @@ use Rattle.listing_text.proofs.put_rest.Statement.{statement}
 use Rattle.listing_text.proofs.put_rest.Tie as tie
 
 abbrev Inv-loop : tie.InvT-loop
-Inv-loop out₀ at methods p₀ i₀ t6 out p i = (i ≤ length methods) × (length out ≡ length out₀) × Appends out₀ at (more (take i methods)) out p
+Inv-loop out₀ at methods p₀ i₀ t6 out p i = (i ≤ length methods) × (length out ≡ length out₀) × Writes out₀ at (more (take i methods)) out p
 
 abbrev μ-loop : tie.MeasureT-loop
 μ-loop out₀ at methods p₀ i₀ t6 out p i = length methods - i

@@ -1,6 +1,7 @@
 use Rattle.refusal.specs.Refusals.{refusalNumber}
 use Rattle.text_out.specs.Text.{decimal}
 use Rattle.text_out.proofs.Laws.{text-out}
+use Rattle.listing_text.proofs.Laws.{named-number}
 use Rattle.listing_text.specs.Text.{refusal=, refusalOut}
 use mathlib.Core.List.{_++_}
 use borrow.Author.Needs.{needs}
@@ -33,7 +34,7 @@ unfolding refusalOut
 returns c =
     let a = c .before .before .before .before .before .before .before .before .before .before .before .before .before .before .before .args in
     text-out (a .out .now) (c .before .before .before .before .before .before .before .before .before .before .before .before .clear .last .0) (refusal= ++ decimal (refusalNumber (a .why))) (c .before .before .before .before .before .before .put-named .last .0) _ _ _ (c .before .before .before .before .before .before .before .before .before .before .before .before .clear .ensures)
-    (rw (← c .before .before .before .before .before .before .before .number .ensures) (c .before .before .before .before .before .before .put-named .ensures))
+    (named-number _ _ refusal= _ _ _ _ (c .before .before .before .before .before .before .before .number .ensures) (c .before .before .before .before .before .before .put-named .ensures))
     (c .before .before .end-line .ensures)
 
 pub refused-spec : {M : Type 1} → statement M

@@ -1,5 +1,6 @@
 use Rattle.request.specs.Request.{headerLines}
 use Rattle.words.proofs.Shared.{met}
+use Rattle.request.proofs.Laws.{no-strings}
 use borrow.Author.Needs.{needs}
 use Rattle.request.proofs.header_lines.Statement.{statement}
 use Rattle.request.proofs.header_lines.Tie as tie
@@ -17,8 +18,7 @@ enum-told : tie.Need-enum-told
 enum-told c = search needs
 
 returns : tie.Need-returns
-unfolding headerLines
-returns c = rw (← met (c .enum-told .given .1) (c .before .before .pair-line .ensures))
+returns c = no-strings _ (met (c .enum-told .given .1) (c .before .before .pair-line .ensures))
 
 slice-aggregate-pair-line-2 : tie.Need-slice-aggregate-pair-line-2
 slice-aggregate-pair-line-2 c = search needs

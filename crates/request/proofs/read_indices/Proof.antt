@@ -3,7 +3,8 @@ use mathlib.Core.Path.{_≡_, refl, ap, _∙_}
 use mathlib.Core.List.{List}
 use lib.ListN.{length, length-set}
 use Rattle.words.proofs.Shared.{met}
-use Rattle.request.specs.Request.{indicesAt, stored, view}
+use Rattle.request.specs.Request.{indicesAt}
+use Rattle.request.specs.Steps.{stored, view}
 use Rattle.request.proofs.Laws.{ends-without, ends-with, goes-on, none-left}
 use borrow.Author.Needs.{needs}
 use native.Mathlib.Omega.{arith}

@@ -2,21 +2,21 @@ use mathlib.Core.Path.{_≡_, refl, ap, _∙_}
 use Prim.Native.Nat.{_-_, _≤_}
 use lib.ListN.{length, take, length-set}
 use lib.Seq.{take-all}
-use Rattle.text_out.specs.Cursor.{Appends}
-use Rattle.text_out.proofs.Laws.{appends-none, appends-next}
+use Rattle.text_out.specs.Write.{Writes}
+use Rattle.text_out.proofs.Laws.{writes-none, writes-next}
 use borrow.Author.Needs.{needs}
 use native.Mathlib.Omega.{arith}
 use Rattle.text_out.proofs.put.Statement.{statement}
 use Rattle.text_out.proofs.put.Tie as tie
 
 abbrev Inv-loop : tie.InvT-loop
-Inv-loop out₀ at bytes p₀ i₀ out p i = (i ≤ length bytes) × (length out ≡ length out₀) × Appends out₀ at (take i bytes) out p
+Inv-loop out₀ at bytes p₀ i₀ out p i = (i ≤ length bytes) × (length out ≡ length out₀) × Writes out₀ at (take i bytes) out p
 
 abbrev μ-loop : tie.MeasureT-loop
 μ-loop out₀ at bytes p₀ i₀ out p i = length bytes - i
 
 loop-holds : tie.Need-loop-holds Inv-loop μ-loop
-loop-holds c = (omega arith, refl, appends-none _ _)
+loop-holds c = (omega arith, refl, writes-none _ _)
 
 shared-slice-read-put-byte : tie.Need-shared-slice-read-put-byte Inv-loop μ-loop
 shared-slice-read-put-byte c = search needs
@@ -35,7 +35,7 @@ loop-again c =
     let l = c .before .before .before .before .before .before .loop in
     let a = c .before .before .before .before .before .before .before .before .before .args in
     let e = c .before .before .put-byte .ensures in
-    (omega arith, ap length (e .0) ∙ length-set (l .out) (l .p) _ ∙ l .inv .1, appends-next (a .out .now) (a .at) (a .bytes .now) (l .out) (l .p) (l .i) _ _ (omega arith) (l .inv .2) (e .0) (e .1))
+    (omega arith, ap length (e .written) ∙ length-set (l .out) (l .p) _ ∙ l .inv .1, writes-next (a .out .now) (a .at) (a .bytes .now) (l .out) (l .p) (l .i) _ _ (omega arith) (l .inv .2) e)
 
 same-length : tie.Need-same-length Inv-loop μ-loop
 same-length c = search needs

@@ -1,6 +1,4 @@
-use mathlib.Core.Path.{sym}
-use lib.Seq.{set-out}
-use native.Mathlib.Omega.{arith}
+use Rattle.text_out.proofs.Laws.{byte-fits, byte-over}
 use borrow.Author.Needs.{needs}
 use Rattle.text_out.proofs.put_byte.Statement.{statement}
 use Rattle.text_out.proofs.put_byte.Tie as tie
@@ -15,13 +13,13 @@ same-length : tie.Need-same-length
 same-length c = search needs
 
 returns : tie.Need-returns
-returns c = search needs
+returns c = byte-fits _ _ _ (search needs)
 
 add-result-2 : tie.Need-add-result-2
 add-result-2 c = search needs
 
 returns-2 : tie.Need-returns-2
-returns-2 c = (sym (set-out _ _ _ (search needs)), omega arith)
+returns-2 c = byte-over _ _ _ (search needs)
 
 pub put-byte-spec : {M : Type 1} → statement M
 put-byte-spec =
