@@ -2,12 +2,13 @@
 --     split     a number is below another or not
 --     First     onward, first-unique, first-none
 --     Passed    none-yet, pass-more, pass-one, passed-first
---     Lane      lane-is, lane-not
+--     Lane      lane-is, lane-not, lane-left
 --     Tested    none-tested, one-tested
 --     Lanes     no-lane, one-lane, all-lanes
+--     part-first, part-passed    a stretch passed, and then a part of the rest
 --     block-first    blocks that are passed, and the place in the next one
 -- Assumes nothing.
-use Prim.Native.Nat.{ℕ, _+_, _-_, _≤_, _<_, min}
+use Prim.Native.Nat.{ℕ, _+_, _-_, _≤_, _<_, min, max}
 use mathlib.Core.Path.{_≡_, refl, sym, subst}
 use mathlib.Core.Logic.{_⊎_, inl, inr, ⊎-elim}
 use mathlib.Core.Bool.{Bool, true, false}
@@ -69,7 +70,7 @@ module _ {P : ℕ → Type 0} {from to : ℕ} where
   passed-first p h = record { inside = p .inside; behind = λ _. p .onward; here = h; none-before = p .none-before }
 
   -- .. and then the first place of a part of the rest, which is all of it or has one
-  part-first : {p q r : ℕ} → Passed P from to p → p ≤ q → q ≤ to → First P p q r → (q ≡ to) ⊎ (r < q) → First P from to r
+  pub part-first : {p q r : ℕ} → Passed P from to p → p ≤ q → q ≤ to → First P p q r → (q ≡ to) ⊎ (r < q) → First P from to r
   part-first {p} {q} {r} c l h f o = record {
     inside = omega (arith, f .inside);
     behind = λ m. omega (arith, f .behind (less m));
@@ -79,6 +80,10 @@ module _ {P : ℕ → Type 0} {from to : ℕ} where
     where
       less : r < to → r < q
       less m = ⊎-elim (λ (e : q ≡ to). omega arith) (λ (n : r < q). n) o
+
+  -- .. where that part has none, it is passed too
+  pub part-passed : {p r : ℕ} (n : ℕ) → Passed P from to p → p + n ≤ to → First P p (p + n) r → p + n ≤ r → Passed P from to (p + n)
+  part-passed {p} n c h f l = pass-more n c h (λ k m. f .none-before (p + k) (omega arith) (omega arith))
 
   pub block-first : {p n r : ℕ} → Blocks P from to p → n ≡ min (to - p) 16 → First P p (p + n) r → First P from to r
   block-first {p} {n} {r} c e f =
@@ -95,6 +100,18 @@ lane-is l n = ⊎-elim (λ c. c .1) (λ c. absurd (n (c .0))) (l .cases)
 
 pub lane-not : {C : Type 0} {r : ℕ} → Lane 1 0 C r → r ≡ 0 → C → ⊥
 lane-not l e y = ⊎-elim (λ c. omega (arith, c .0)) (λ c. c .1 y) (l .cases)
+
+-- .. where a place that counts is told by what is left of n from it on, and the greatest is kept
+pub lane-left : {C : Type 0} {n i rest k r : ℕ} → i < n → rest ≤ n → Lane (n - i) 0 C k → r ≡ max rest k → Nearer (n - rest) i C (n - r)
+lane-left {C} {n} {i} {rest} {k} {r} h m l e = ⊎-elim counts other (l .cases)
+  where
+    counts : (k ≡ n - i) × C → Nearer (n - rest) i C (n - r)
+    counts c =
+        ⊎-elim (λ (d : rest < n - i). record { cases = inl (omega (arith, c .0), omega arith, c .1) })
+        (λ (d : n - i ≤ rest). record { cases = inr (omega (arith, c .0), λ _. omega arith) }) (split rest (n - i))
+
+    other : (k ≡ 0) × (C → ⊥) → Nearer (n - rest) i C (n - r)
+    other c = record { cases = inr (omega (arith, c .0), λ y. absurd (c .1 y)) }
 
 -- ---- a block, by its places below i
 module _ {P : ℕ → Type 0} {p : ℕ} where

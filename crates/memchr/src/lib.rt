@@ -1,7 +1,7 @@
-// The first place of one byte, of one of two, or of two at a distance (the crate memchr of the Rust). A block of 16 places is tested,
-// and then searched, without a way out in between: the back end turns both into vector instructions.
+// The first place of one byte, of one of two, or of two at a distance (the crate memchr of the Rust). A block of places is tested or
+// searched without a way out in between: the back end turns both into vector instructions.
 ghost use mathlib.Core.Path.{_≡_};
-ghost use Prim.Native.Nat.{_+_, _-_, _≤_, min};
+ghost use Prim.Native.Nat.{_+_, _-_, _≤_, min, max};
 ghost use lib.ListN.{length};
 ghost use Rattle.memchr.specs.First.{Is, Either, Both, First, Tested, Lane, Nearer, Blocks};
 
@@ -115,11 +115,47 @@ pub fn memchr2(a: u8, b: u8, s: &[u8], from: usize, end: usize) -> usize
     first_either(a, b, s, at, block_of(to - at))
 }
 
-// The same for one byte.
+// ---- one byte
+
+fn greater(a: u8, b: u8) -> u8
+    ensures { λ r. ⌜ r ≡ max a b ⌝ }
+{
+    if a < b { b } else { a }
+}
+
+// How many of the 64 bytes at a place stand from the first a on: 0 where none is a. The greatest number is quicker to find than the
+// least, since what doesn't count is 0.
+fn rest_from(a: u8, s: &[u8], at: usize) -> u8
+    requires { ⌜ at + 64 ≤ length (now s) ⌝ }
+    ensures { λ r. ⌜ (r ≤ 64) × First (Either a a (now (s .entry))) at (at + 64) (at + 64 - r) ⌝ }
+{
+    let mut rest: u8 = 0;
+    let mut i: u8 = 0;
+    while i < 64 {
+        rest = greater(rest, either(64 - i, 0, s[at + i as usize], a, a));
+        i += 1;
+    }
+    rest
+}
+
+// The same as `memchr2` for one byte. A block is searched at once, and is so long that most texts end in the first: a branch at each
+// shorter one would cost more than what is read in vain.
 pub fn memchr(a: u8, s: &[u8], from: usize, end: usize) -> usize
     ensures { λ r. ⌜ First (Either a a (now (s .entry))) from (min end (length (now (s .entry)))) r ⌝ }
 {
-    memchr2(a, a, s, from, end)
+    let to = lesser(end, s.len());
+    if to <= from {
+        return to;
+    }
+    let mut at = from;
+    while 64 <= to - at {
+        let rest = rest_from(a, s, at);
+        at += 64;
+        if 0 < rest {
+            return at - rest as usize;
+        }
+    }
+    plain_either(a, a, s, at, to)
 }
 
 // ---- two bytes at a distance
