@@ -309,8 +309,8 @@ pub extern "C" fn ringlinden_list_slot(
 ) -> u32
     ensures { λ r. ⌜ Told ofAnswer (λ (a : AnAnswer). GivesWords (listOut (now (shares .entry)) slot (length (now (methods .entry)))) a (now (methods .entry)) (now (methods .exit))) (r ∷ now (count .exit) ∷ []) ⌝ }
 {
-    let answer = slot_listing::list_slot(shares, slot, methods);
-    handover::tell(answer, count)
+    let listed = slot_listing::list_slot(shares, slot, methods);
+    handover::tell(listed, count)
 }
 
 // Build, scan and locate in one, with demand 3 as `findrefs::find` has it.
