@@ -1,0 +1,10 @@
+pub mod Branches
+pub mod Grouped
+pub mod Searches
+pub mod Codes
+pub mod Located
+pub mod Finder
+pub mod Texts
+pub mod Supposed
+pub mod Held
+pub mod Case

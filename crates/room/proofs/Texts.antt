@@ -1,0 +1,62 @@
+-- Room for the texts of `refs`: a line is its slot's listing and then a text, and each of these has a law on room.
+-- Assumes nothing.
+use Prim.Native.Nat.{ℕ, zero, suc, _+_, _≤_}
+use native.Mathlib.Omega.{arith}
+use mathlib.Core.Path.{_≡_, refl, ap, _∙_}
+use mathlib.Core.Logic.{⊎-elim}
+use mathlib.Core.Bool.{Bool, true, false, cond, _&&_}
+use mathlib.Core.List.{List}
+use lib.ListN.{length, getD}
+use lib.Dec.{ltb, eqb}
+use borrow.Author.Tests.{eqb-true, eqb-false, eq-eqb}
+use Rattle.words.proofs.Shared.{case}
+use Rattle.refusal.specs.Outcomes.{Outcome, refused}
+use Rattle.insn_locator.specs.Listing.{listOut}
+use Rattle.listing_text.specs.Text.{entryOut}
+use Rattle.listing_text.proofs.Room.{entry-room}
+use Rattle.entry_lines.specs.Line.{lineBy, lineOut, alike, lineAt, firstRefused, triedOut}
+use Rattle.room.proofs.Branches.{same-then}
+use Rattle.room.proofs.Located.{list-more}
+
+module _ (words bytes words′ bytes′ : ℕ) (a : words ≤ words′) (b : bytes ≤ bytes′) where
+  by-more : (off idx : ℕ) (o o′ : Outcome) → (o .number ≡ 0 → o′ ≡ o) → lineBy off idx o bytes .number ≡ 0 → lineBy off idx o′ bytes′ ≡ lineBy off idx o bytes
+  by-more off idx o o′ f =
+      ⊎-elim
+      (λ (t : eqb (o .number) 0 ≡ true) e.
+      rw (f (eqb-true (o .number) 0 t)) (rw t (entry-room bytes bytes′ b off idx (o .list) (rw t at e))))
+      (λ (t : eqb (o .number) 0 ≡ false) e. absurd (eqb-false (o .number) 0 t (rw t at e)))
+      (case (eqb (o .number) 0))
+
+  line-more : (off idx slot : ℕ) (shares : List ℕ) → lineOut off idx slot shares words bytes .number ≡ 0
+      → lineOut off idx slot shares words′ bytes′ ≡ lineOut off idx slot shares words bytes
+  unfolding lineOut
+  line-more off idx slot shares =
+      by-more off idx (listOut shares slot words) (listOut shares slot words′) (list-more shares slot words words′ a)
+
+  module _ (offs marks answers shares : List ℕ) where
+    pub entry-more : (i : ℕ) → lineAt offs marks answers shares words bytes i .number ≡ 0
+        → lineAt offs marks answers shares words′ bytes′ i ≡ lineAt offs marks answers shares words bytes i
+    unfolding lineAt
+    entry-more i =
+        same-then (λ (o : Outcome). o .number) (alike offs marks answers && ltb i (length offs)) _ _ (refused 15)
+        (line-more (getD offs i 0) (getD marks i 0) (getD answers i 0) shares)
+
+    first-more : (k i : ℕ) → firstRefused (lineAt offs marks answers shares words bytes) k i ≡ 0
+        → firstRefused (lineAt offs marks answers shares words′ bytes′) k i ≡ 0
+    unfolding firstRefused
+    first-more zero i = λ e. refl
+    first-more (suc k) i =
+        ⊎-elim
+        (λ (t : eqb (lineAt offs marks answers shares words bytes i .number) 0 ≡ true) e.
+        let z : lineAt offs marks answers shares words bytes i .number ≡ 0 = eqb-true _ 0 t in
+        rw (entry-more i z) (rw t (first-more k (i + 1) (rw t at e))))
+        (λ (t : eqb (lineAt offs marks answers shares words bytes i .number) 0 ≡ false) e. absurd (eqb-false _ 0 t (rw t at e)))
+        (case (eqb (lineAt offs marks answers shares words bytes i .number) 0))
+
+    pub entries-more : triedOut offs marks answers shares words bytes ≡ 0 → triedOut offs marks answers shares words′ bytes′ ≡ 0
+    unfolding triedOut
+    entries-more =
+        ⊎-elim
+        (λ (t : alike offs marks answers ≡ true) e. rw t (first-more (length offs) 0 (rw t at e)))
+        (λ (t : alike offs marks answers ≡ false) e. absurd (let z : _≡_ {A = ℕ} 15 0 = rw t at e in omega arith))
+        (case (alike offs marks answers))
