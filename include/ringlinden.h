@@ -2,15 +2,19 @@
  * Ringlinden, as C and C++ call it: `rt staticlib ringlinden` writes target/staticlib/libringlinden.a. Nothing else is needed to link
  * but memset.
  *
- *     cc -std=c99 -I include uses.c target/staticlib/libringlinden.a
+ *     cc -std=c99 -I include tools/c/lookup.c target/staticlib/libringlinden.a
+ *
+ * tools/c/lookup.c is a whole program, from a phrase to the methods that use it; tools/check-c compiles and runs it as C and as C++.
  *
  * Each function returns 0, or the number of a refusal (RINGLINDEN_..), the first that applies in the order given with the function. It is
  * proved to be safe, to end, and to answer as its definition says, for all values of all arguments. What C has to see to, since
  * nothing here can:
  *
- *   - a pointer and the length behind it, in elements, are memory that is there: aligned, not null even where the length is 0, and
- *     of at most PTRDIFF_MAX bytes. Bytes and words that are only read have to be set;
- *   - what is written (the lent outputs and the numbers) overlaps nothing else that is passed.
+ *   - a pointer and the length behind it, in elements, are memory that is there: aligned, and of at most PTRDIFF_MAX bytes. Where the
+ *     length is 0 the pointer may be null. Bytes and words that are only read have to be set;
+ *   - the header record and the numbers are there in every call;
+ *   - what is written (the lent outputs and the numbers) overlaps nothing else that is passed;
+ *   - there is enough stack (below).
  *
  * Of every function:
  *
@@ -19,7 +23,39 @@
  *   - the numbers behind `size_t *` are set by every call, on a refusal to 0;
  *   - a file of more than 16,777,216 bytes is refused first (1), where there is a file;
  *   - `header` is 13 words, offset and size of the tables of strings, types, prototypes, fields, methods and classes, and the map's
- *     offset. It is taken as given, and need not be the file's own.
+ *     offset. It is taken as given, and need not be the file's own;
+ *   - calls share no state: the library keeps nothing from one call to the next, allocates nothing, and may be called from several
+ *     threads at once, each with lent outputs of its own;
+ *   - stack that a call takes, in KiB, for files of up to 3,000, 100,000 and 4,000,000 strings (measured on x86-64 by tools/check-c; no
+ *     proof speaks of it):
+ *
+ *         string_search                                                         513    513    513
+ *         type_search, method_search, name_filter                              1026   1026   1026
+ *         scan for strings, scan for others, find for strings, find for others  517    517    517
+ *         the others                                                              1      1      1
+ *
+ * What suffices: with outputs of these lengths no call is refused 4 (proved: crates/room), and longer ones are as good. n is file_len;
+ * strings.size and so on are the header's.
+ *
+ *     type_groups     str_offsets: strings.size + 1; type_idxs: types.size
+ *     method_groups   clz_offsets: types.size + 1; name_offsets: strings.size + 1; clz_mids, name_mids: methods.size
+ *     string_map      keys: strings.size
+ *     string_search   out: keys_len
+ *     type_search     strings: keys_len; out: type_idxs_len
+ *     method_search   strings: keys_len; types: type_idxs_len; out: methods.size
+ *     name_filter     out: given_len
+ *     code_table      starts: methods.size; slots: n / 16; triples, shares: three words for each code found, up to 2^31 codes
+ *     scan            offs, marks: n for strings, (n + 1) / 2 for the other kinds
+ *     locate          answers: entries_len; further: starts_len
+ *     list_slot       methods: shares_len / 3 + 1
+ *
+ * How many codes are found is known beforehand only of a file in which no method has code twice, as of every file that demand 3 speaks of
+ * (README.md, "What is proved"). For such a file also:
+ *
+ *     code_table      triples, shares: 3 * methods.size
+ *     find            starts, further: methods.size; triples, shares: 3 * methods.size; slots: n / 16;
+ *                     offs, marks, answers: n for strings, (n + 1) / 2 for the other kinds
+ *     list_slot       methods: methods.size, for the slot of a confirmed entry
  *
  * For example, the methods that use the string with index 7, from a file and its header:
  *
@@ -106,8 +142,8 @@ uint32_t ringlinden_string_map(const uint8_t *file, size_t file_len, const uint3
 uint32_t ringlinden_string_bytes(const uint8_t *file, size_t file_len, size_t offset, size_t *start, size_t *count);
 
 /*
- * The searches take the keys and the area that ringlinden_string_map gave. Their results rise, without repeats. An area backward or
- * past the file's end finds nothing.
+ * The searches take the keys and the area that ringlinden_string_map gave, with keys_len = *count: the zeros behind the keys of a longer
+ * slice would be keys that don't rise (15). Their results rise, without repeats. An area backward or past the file's end finds nothing.
  */
 
 /*
@@ -129,8 +165,9 @@ uint32_t ringlinden_type_search(const uint8_t *file, size_t file_len, const uint
 
 /*
  * The methods whose class and whose name is found; an empty query asks nothing of its part, and two empty ones find nothing. strings and
- * types: as many words as strings and types are found, zero afterwards in every case; out: *count words. Refusals: 1; 9, either query
- * has more than 255 bytes; 15; 3, the method ids; 4.
+ * types: as many words as strings and types are found, zero afterwards in every case; a class that names no type finds nothing,
+ * whatever is lent for the name's strings. out: *count words. Refusals: 1; 9, either query has more than 255 bytes; 15; 3, the method
+ * ids; 4.
  */
 uint32_t ringlinden_method_search(const uint8_t *file, size_t file_len, const uint32_t header[13],
                                   const uint64_t *keys, size_t keys_len, size_t start, size_t end,
@@ -189,8 +226,9 @@ uint32_t ringlinden_list_slot(const uint32_t *shares, size_t shares_len, uint32_
 
 /*
  * Code table, scan of its region and locate in one. starts, triples, slots and shares as of ringlinden_code_table, offs and marks as of
- * ringlinden_scan, further and answers as of ringlinden_locate; *hits words of offs, marks and answers are the result. Refusals: those of
- * the three, in their order. For a file as published no instruction is missing: crates/findrefs has the statement.
+ * ringlinden_scan, answers as of ringlinden_locate; further: a word for each method, however many start words are lent. *hits words of
+ * offs, marks and answers are the result. Refusals: those of the three, in their order. For a file as published and lent outputs
+ * that suffice no instruction is missing: crates/findrefs has the statement.
  */
 uint32_t ringlinden_find(const uint8_t *file, size_t file_len, const uint32_t header[13], uint32_t kind,
                          const uint32_t *wanted, size_t wanted_len, uint32_t *starts, size_t starts_len,
