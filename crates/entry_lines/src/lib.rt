@@ -14,7 +14,7 @@ fn line(off: u32, idx: u32, slot: u32, shares: &[u32], mids: &mut [u32], text: &
 {
     match slot_listing::list_slot(shares, slot, mids) {
         Answer::Refused(why) => {
-            text_out::clear(text);
+            words::clear_bytes(text);
             Answer::Refused(why)
         }
         Answer::Done(n) => listing_text::entry(off, idx, &mids[..n], text),
@@ -33,7 +33,7 @@ fn refuse(why: Refusal, mids: &mut [u32], text: &mut [u8]) -> Answer
     ensures { λ r. ⌜ RefusedBy why r (now (text .entry)) (now (text .exit)) (now (mids .entry)) (now (mids .exit)) ⌝ }
 {
     words::fill(mids, 0);
-    text_out::clear(text);
+    words::clear_bytes(text);
     Answer::Refused(why)
 }
 
@@ -82,6 +82,6 @@ pub fn try_lines(
         i += 1;
     }
     words::clear(mids);
-    text_out::clear(text);
+    words::clear_bytes(text);
     Answer::Done(i)
 }

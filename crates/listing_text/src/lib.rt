@@ -51,7 +51,7 @@ fn put_kind(out: &mut [u8], at: usize, kind: u32) -> usize
 pub fn head(kind: u32, hits: usize, out: &mut [u8]) -> Answer
     ensures { λ r. ⌜ Gives (headOut kind hits (length (now (out .entry)))) r (now (out .entry)) (now (out .exit)) ⌝ }
 {
-    text_out::clear(out);
+    words::clear_bytes(out);
     if kind == 0 {
         return Answer::Refused(Refusal::UnknownKind);
     }
@@ -68,7 +68,7 @@ pub fn head(kind: u32, hits: usize, out: &mut [u8]) -> Answer
 pub fn entry(off: u32, idx: u32, mids: &[u32], out: &mut [u8]) -> Answer
     ensures { λ r. ⌜ Gives (entryOut off idx (now (mids .entry)) (length (now (out .entry)))) r (now (out .entry)) (now (out .exit)) ⌝ }
 {
-    text_out::clear(out);
+    words::clear_bytes(out);
     let a = text_out::put_named(out, 0, b"off=", off as u64);
     let b = text_out::put_named(out, a, b" idx=", idx as u64);
     let c = text_out::put(out, b, b" mids=");
@@ -80,7 +80,7 @@ pub fn entry(off: u32, idx: u32, mids: &[u32], out: &mut [u8]) -> Answer
 pub fn refused(why: Refusal, out: &mut [u8]) -> Answer
     ensures { λ r. ⌜ Gives (refusalOut why (length (now (out .entry)))) r (now (out .entry)) (now (out .exit)) ⌝ }
 {
-    text_out::clear(out);
+    words::clear_bytes(out);
     let a = text_out::put_named(out, 0, b"refusal=", refusal::number(why) as u64);
     text_out::end_line(out, a)
 }

@@ -1,4 +1,5 @@
--- What a read answers: the little-endian number where all its bytes are inside the file.
+-- What a read answers: the little-endian number, in which a byte past the file's end is 0; or, in the form with a case of its own for it,
+-- the number where all its bytes are inside the file.
 -- Assumes nothing.
 use Prim.Native.Nat.{ℕ, _+_, _<_}
 use mathlib.Core.Path.{_≡_}
@@ -16,6 +17,11 @@ use Rattle.structs.specs.declared.Read32.the-variants as v32
 pub record ByteAt (s : List ℕ) (i r : ℕ) : Type 0 where
   pub is : r ≡ byte s i
   pub small : r < 256
+
+-- r is the number of 2 bytes at i
+pub record HalfAt (s : List ℕ) (i r : ℕ) : Type 0 where
+  pub is : r ≡ le16 s i
+  pub small : r < 65536
 
 unfoldable pub read16 : List ℕ → ℕ → Read16
 read16 s i = cond (leb (i + 2) (length s)) (v16.Value (le16 s i)) v16.Outside

@@ -1,10 +1,9 @@
-// Reads of 2 and 4 bytes, little endian (structs.rs). Nothing is asked of the caller: bytes that are not inside the file are an
-// answer of their own.
+// Reads of 1, 2 and 4 bytes, little endian (structs.rs). Nothing is asked of the caller. Each comes in two forms: the number with zeros
+// past the file's end, and an answer that has a case of its own for bytes that are not inside the file.
 ghost use mathlib.Core.Path.{_≡_};
-ghost use Prim.Native.Nat.{_+_, _<_, _≤_};
-ghost use lib.ListN.{length};
-ghost use Rattle.dalvik.specs.Numbers.{byte, le16, le32};
-ghost use Rattle.structs.specs.Reads.{ByteAt, read16, read32};
+ghost use Prim.Native.Nat.{_<_};
+ghost use Rattle.dalvik.specs.Numbers.{le32};
+ghost use Rattle.structs.specs.Reads.{ByteAt, HalfAt, read16, read32};
 
 pub enum Read16 {
     Value(u16),
@@ -16,26 +15,36 @@ pub enum Read32 {
     Outside,
 }
 
-// A byte as a word.
-fn byte_at(s: &[u8], at: usize) -> u32
-    requires { ⌜ at < length (now s) ⌝ }
+// The byte at a place, 0 past the end.
+pub fn byte_at(s: &[u8], at: usize) -> u32
     ensures { λ r. ⌜ ByteAt (now (s .entry)) at r ⌝ }
 {
-    s[at] as u32
+    if at < s.len() { s[at] as u32 } else { 0 }
 }
 
-fn u16_at(s: &[u8], at: usize) -> u16
-    requires { ⌜ at + 2 ≤ length (now s) ⌝ }
-    ensures { λ r. ⌜ r ≡ le16 (now (s .entry)) at ⌝ }
+// The number of 2 bytes at a place, zeros past the end.
+pub fn u16_at(s: &[u8], at: usize) -> u32
+    ensures { λ r. ⌜ HalfAt (now (s .entry)) at r ⌝ }
 {
-    (byte_at(s, at) + 256 * byte_at(s, at + 1)) as u16
+    if s.len() <= at {
+        return 0;
+    }
+    byte_at(s, at) + 256 * byte_at(s, at + 1)
 }
 
-fn u32_at(s: &[u8], at: usize) -> u32
-    requires { ⌜ at + 4 ≤ length (now s) ⌝ }
+// The number of 4 bytes at a place, zeros past the end.
+pub fn u32_at(s: &[u8], at: usize) -> u32
     ensures { λ r. ⌜ r ≡ le32 (now (s .entry)) at ⌝ }
 {
-    (u16_at(s, at) as u32) + 65536 * (u16_at(s, at + 2) as u32)
+    let low = u16_at(s, at);
+    let n = s.len();
+    if n < 2 {
+        return low;
+    }
+    if n - 2 <= at {
+        return low;
+    }
+    low + 65536 * u16_at(s, at + 2)
 }
 
 // The number of 2 bytes at a place.
@@ -49,7 +58,7 @@ pub fn read_u16(s: &[u8], at: usize) -> Read16
     if n - 2 < at {
         return Read16::Outside;
     }
-    Read16::Value(u16_at(s, at))
+    Read16::Value(u16_at(s, at) as u16)
 }
 
 // The number of 4 bytes at a place.

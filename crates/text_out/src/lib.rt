@@ -2,22 +2,10 @@
 // doesn't fit is refused with 4, and then every lent byte is zero.
 ghost use mathlib.Core.Path.{_≡_};
 ghost use mathlib.Core.List.{[], _∷_, _++_};
-ghost use lib.ListN.{length, replicate};
 ghost use Rattle.text_out.specs.Text.{decimal};
 ghost use Rattle.text_out.specs.Write.{Writes, endAt, Ends};
 use refusal::Answer;
 use refusal::Refusal;
-
-// Every byte becomes 0.
-pub fn clear(out: &mut [u8])
-    ensures { λ _. ⌜ now (out .exit) ≡ replicate (length (now (out .entry))) 0 ⌝ }
-{
-    let mut i = 0;
-    while i < out.len() {
-        out[i] = 0;
-        i += 1;
-    }
-}
 
 // A byte at a place, and the place behind it. Past the end nothing is written, and the place is one behind the end.
 fn put_byte(out: &mut [u8], at: usize, b: u8) -> usize
@@ -66,7 +54,7 @@ pub fn end_line(out: &mut [u8], at: usize) -> Answer
 {
     let end = put(out, at, b"\n");
     if out.len() < end {
-        clear(out);
+        words::clear_bytes(out);
         return Answer::Refused(Refusal::LentTooShort);
     }
     Answer::Done(end)

@@ -1,3 +1,4 @@
+pub mod Filled
 pub mod Shared
 pub mod Arms
 pub mod Padded

@@ -1,5 +1,5 @@
-// Lent slices of words, and the small total operations that definitions and code share: a read past the end is 0, a difference
-// below 0 is 0, a store past the end changes nothing.
+// Lent slices of numbers: filled and cleared, at each width; and the small total operations that definitions and code share: a read past
+// the end is 0, a difference below 0 is 0, a store past the end changes nothing.
 ghost use mathlib.Core.Path.{_≡_};
 ghost use Prim.Native.Nat.{_-_, min, max};
 ghost use lib.ListN.{length, replicate, getD, set};
@@ -20,6 +20,28 @@ pub fn clear(w: &mut [u32])
     ensures { λ _. ⌜ now (w .exit) ≡ replicate (length (now (w .entry))) 0 ⌝ }
 {
     fill(w, 0);
+}
+
+// Every byte becomes 0.
+pub fn clear_bytes(bytes: &mut [u8])
+    ensures { λ _. ⌜ now (bytes .exit) ≡ replicate (length (now (bytes .entry))) 0 ⌝ }
+{
+    let mut i = 0;
+    while i < bytes.len() {
+        bytes[i] = 0;
+        i += 1;
+    }
+}
+
+// Every word of 64 bits of w becomes 0.
+pub fn clear_wide(w: &mut [u64])
+    ensures { λ _. ⌜ now (w .exit) ≡ replicate (length (now (w .entry))) 0 ⌝ }
+{
+    let mut i = 0;
+    while i < w.len() {
+        w[i] = 0;
+        i += 1;
+    }
 }
 
 // The word at i, and 0 past the end.

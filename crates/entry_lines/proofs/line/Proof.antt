@@ -12,8 +12,8 @@ list-slot-requires c κs = search needs
 enum-known-why : tie.Need-enum-known-why
 enum-known-why c = search needs
 
-clear-requires : tie.Need-clear-requires
-clear-requires c κs = search needs
+clear-bytes-requires : tie.Need-clear-bytes-requires
+clear-bytes-requires c κs = search needs
 
 enum-known-n : tie.Need-enum-known-n
 enum-known-n c = search needs
@@ -37,7 +37,7 @@ returns : tie.Need-returns
 unfolding lineOut
 returns c =
     let a = c .before .before .before .before .before .before .before .before .before .before .before .before .before .before .args in
-    line-refused _ _ (c .before .before .before .before .before .before .before .before .before .list-slot .last .1 .1 .0) (a .off) (a .idx) _ _ (a .text .now) _ (gives-as (c .before .before .before .before .before .why .given .1) (c .before .before .before .before .before .before .before .before .before .list-slot .ensures)) (c .before .before .clear .ensures)
+    line-refused _ _ (c .before .before .before .before .before .before .before .before .before .list-slot .last .1 .1 .0) (a .off) (a .idx) _ _ (a .text .now) _ (gives-as (c .before .before .before .before .before .why .given .1) (c .before .before .before .before .before .before .before .before .before .list-slot .ensures)) (c .before .before .clear-bytes .ensures)
 
 same-length-3 : tie.Need-same-length-3
 same-length-3 c = search needs
@@ -57,7 +57,7 @@ line-spec =
     (tie.spec
     list-slot-requires
     enum-known-why
-    clear-requires
+    clear-bytes-requires
     enum-known-n
     slice-reshare-prefix-entry
     slice-aggregate-entry

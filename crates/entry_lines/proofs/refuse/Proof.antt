@@ -7,8 +7,8 @@ use Rattle.entry_lines.proofs.refuse.Tie as tie
 fill-requires : tie.Need-fill-requires
 fill-requires c κs = search needs
 
-clear-requires : tie.Need-clear-requires
-clear-requires c κs = search needs
+clear-bytes-requires : tie.Need-clear-bytes-requires
+clear-bytes-requires c κs = search needs
 
 same-length : tie.Need-same-length
 same-length c = search needs
@@ -17,7 +17,7 @@ same-length-2 : tie.Need-same-length-2
 same-length-2 c = search needs
 
 returns : tie.Need-returns
-returns c = record { answer = refl; no-bytes = c .before .before .clear .ensures; no-words = c .before .before .before .before .before .before .fill .ensures }
+returns c = record { answer = refl; no-bytes = c .before .before .clear-bytes .ensures; no-words = c .before .before .before .before .before .before .fill .ensures }
 
 pub refuse-spec : {M : Type 1} → statement M
-refuse-spec = tie.close (tie.spec fill-requires clear-requires same-length same-length-2 returns)
+refuse-spec = tie.close (tie.spec fill-requires clear-bytes-requires same-length same-length-2 returns)

@@ -82,8 +82,8 @@ loop-again c =
 clear-requires : tie.Need-clear-requires Inv-loop μ-loop
 clear-requires c κs = search needs
 
-clear-requires-2 : tie.Need-clear-requires-2 Inv-loop μ-loop
-clear-requires-2 c κs = search needs
+clear-bytes-requires : tie.Need-clear-bytes-requires Inv-loop μ-loop
+clear-bytes-requires c κs = search needs
 
 same-length-5 : tie.Need-same-length-5 Inv-loop μ-loop
 same-length-5 c = search needs
@@ -97,7 +97,7 @@ returns-3 c =
     let a = c .before .before .before .before .before .before .before .before .before .before .before .before .before .before .before .before .before .before .args in
     let n = length (a .offs .now) in
     let f = lineAt (a .offs .now) (a .marks .now) (a .answers .now) (a .shares .now) (length (a .mids .now)) (length (a .text .now)) in
-    tries-done _ _ _ _ (l .text) _ _ (l .mids) _ (try-done f n (l .i) (omega arith) (l .inv .3) ∙ sym (tried-alike (a .offs .now) (a .marks .now) (a .answers .now) (a .shares .now) _ _ (likewise (c .before .before .before .before .before .before .before .before .before .before .if1 .left) (c .before .before .before .before .before .before .before .before .before .before .before .alike .ensures)))) (omega arith) (l .inv .2) (l .inv .1) (c .before .before .clear2 .ensures) (c .before .before .before .before .before .before .clear .ensures)
+    tries-done _ _ _ _ (l .text) _ _ (l .mids) _ (try-done f n (l .i) (omega arith) (l .inv .3) ∙ sym (tried-alike (a .offs .now) (a .marks .now) (a .answers .now) (a .shares .now) _ _ (likewise (c .before .before .before .before .before .before .before .before .before .before .if1 .left) (c .before .before .before .before .before .before .before .before .before .before .before .alike .ensures)))) (omega arith) (l .inv .2) (l .inv .1) (c .before .before .clear-bytes .ensures) (c .before .before .before .before .before .before .clear .ensures)
 
 pub try-lines-spec : {M : Type 1} → statement M
 try-lines-spec =
@@ -122,7 +122,7 @@ try-lines-spec =
     loop-less
     loop-again
     clear-requires
-    clear-requires-2
+    clear-bytes-requires
     same-length-5
     same-length-6
     returns-3)

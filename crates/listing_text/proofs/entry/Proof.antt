@@ -6,8 +6,8 @@ use borrow.Author.Needs.{needs}
 use Rattle.listing_text.proofs.entry.Statement.{statement}
 use Rattle.listing_text.proofs.entry.Tie as tie
 
-clear-requires : tie.Need-clear-requires
-clear-requires c κs = search needs
+clear-bytes-requires : tie.Need-clear-bytes-requires
+clear-bytes-requires c κs = search needs
 
 slice-aggregate-put-named : tie.Need-slice-aggregate-put-named
 slice-aggregate-put-named c = search needs
@@ -40,7 +40,7 @@ returns : tie.Need-returns
 unfolding entryOut
 returns c =
     let a = c .before .before .before .before .before .before .before .before .before .before .before .before .before .before .before .before .before .before .before .before .before .before .before .before .before .before .before .before .before .args in
-    text-out (a .out .now) (c .before .before .before .before .before .before .before .before .before .before .before .before .before .before .before .before .before .before .before .before .before .before .before .before .before .clear .last .0) (off= ++ decimal (a .off) ++ idx= ++ decimal (a .idx) ++ mids= ++ midsText (a .mids .now)) (c .before .before .before .before .before .before .put-mids .last .0) _ _ _ (c .before .before .before .before .before .before .before .before .before .before .before .before .before .before .before .before .before .before .before .before .before .before .before .before .before .clear .ensures)
+    text-out (a .out .now) (c .before .before .before .before .before .before .before .before .before .before .before .before .before .before .before .before .before .before .before .before .before .before .before .before .before .clear-bytes .last .0) (off= ++ decimal (a .off) ++ idx= ++ decimal (a .idx) ++ mids= ++ midsText (a .mids .now)) (c .before .before .before .before .before .before .put-mids .last .0) _ _ _ (c .before .before .before .before .before .before .before .before .before .before .before .before .before .before .before .before .before .before .before .before .before .before .before .before .before .clear-bytes .ensures)
     (writes-then _ _ (off= ++ decimal (a .off) ++ idx= ++ decimal (a .idx) ++ mids=) (c .before .before .before .before .before .before .before .before .before .before .put .last .0) _ (midsText (a .mids .now)) _ _
     (writes-then _ _ (off= ++ decimal (a .off) ++ idx= ++ decimal (a .idx)) (c .before .before .before .before .before .before .before .before .before .before .before .before .before .before .before .put-named2 .last .0) _ mids= _ _
     (writes-named _ _ (off= ++ decimal (a .off)) (c .before .before .before .before .before .before .before .before .before .before .before .before .before .before .before .before .before .before .before .before .put-named .last .0) _ idx= (decimal (a .idx)) _ _ (c .before .before .before .before .before .before .before .before .before .before .before .before .before .before .before .before .before .before .before .before .put-named .ensures) (c .before .before .before .before .before .before .before .before .before .before .before .before .before .before .before .put-named2 .ensures))
@@ -49,4 +49,4 @@ returns c =
     (c .before .before .end-line .ensures)
 
 pub entry-spec : {M : Type 1} → statement M
-entry-spec = tie.close (tie.spec clear-requires slice-aggregate-put-named put-named-requires slice-aggregate-put-named-2 put-named-requires-2 slice-aggregate-put put-requires put-mids-requires end-line-requires same-length returns)
+entry-spec = tie.close (tie.spec clear-bytes-requires slice-aggregate-put-named put-named-requires slice-aggregate-put-named-2 put-named-requires-2 slice-aggregate-put put-requires put-mids-requires end-line-requires same-length returns)

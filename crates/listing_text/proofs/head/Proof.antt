@@ -14,8 +14,8 @@ use borrow.Author.Needs.{needs}
 use Rattle.listing_text.proofs.head.Statement.{statement}
 use Rattle.listing_text.proofs.head.Tie as tie
 
-clear-requires : tie.Need-clear-requires
-clear-requires c κs = search needs
+clear-bytes-requires : tie.Need-clear-bytes-requires
+clear-bytes-requires c κs = search needs
 
 same-length : tie.Need-same-length
 same-length c = search needs
@@ -23,7 +23,7 @@ same-length c = search needs
 returns : tie.Need-returns
 returns c =
     let a = c .before .before .before .before .before .before .args in
-    rw (head-unknown _ (a .hits) (length (a .out .now)) (inl (c .if1 .taken))) (gives-refused _ _ _ UnknownKind refl (c .before .before .before .clear .ensures))
+    rw (head-unknown _ (a .hits) (length (a .out .now)) (inl (c .if1 .taken))) (gives-refused _ _ _ UnknownKind refl (c .before .before .before .clear-bytes .ensures))
 
 same-length-2 : tie.Need-same-length-2
 same-length-2 c = search needs
@@ -31,7 +31,7 @@ same-length-2 c = search needs
 returns-2 : tie.Need-returns-2
 returns-2 c =
     let a = c .before .before .before .before .before .before .before .args in
-    rw (head-unknown _ (a .hits) (length (a .out .now)) (inr (c .if2 .taken))) (gives-refused _ _ _ UnknownKind refl (c .before .before .before .before .clear .ensures))
+    rw (head-unknown _ (a .hits) (length (a .out .now)) (inr (c .if2 .taken))) (gives-refused _ _ _ UnknownKind refl (c .before .before .before .before .clear-bytes .ensures))
 
 slice-aggregate-put : tie.Need-slice-aggregate-put
 slice-aggregate-put c = search needs
@@ -58,11 +58,11 @@ returns-3 : tie.Need-returns-3
 returns-3 c =
     let a = c .before .before .before .before .before .before .before .before .before .before .before .before .before .before .before .before .before .before .before .before .before .before .before .before .before .args in
     rw (head-known (a .kind) (a .hits) (length (a .out .now)) (omega arith) (omega arith)) (
-    text-out (a .out .now) (c .before .before .before .before .before .before .before .before .before .before .before .before .before .before .before .before .before .before .before .before .before .before .clear .last .0) (kind= ++ kindName (a .kind) ++ hits= ++ decimal (a .hits)) (c .before .before .before .before .before .before .put-named .last .0) _ _ _ (c .before .before .before .before .before .before .before .before .before .before .before .before .before .before .before .before .before .before .before .before .before .before .clear .ensures)
+    text-out (a .out .now) (c .before .before .before .before .before .before .before .before .before .before .before .before .before .before .before .before .before .before .before .before .before .before .clear-bytes .last .0) (kind= ++ kindName (a .kind) ++ hits= ++ decimal (a .hits)) (c .before .before .before .before .before .before .put-named .last .0) _ _ _ (c .before .before .before .before .before .before .before .before .before .before .before .before .before .before .before .before .before .before .before .before .before .before .clear-bytes .ensures)
     (writes-named _ _ (kind= ++ kindName (a .kind)) (c .before .before .before .before .before .before .before .before .before .before .before .put-kind .last .0) _ hits= (decimal (a .hits)) _ _
     (writes-then _ _ kind= (c .before .before .before .before .before .before .before .before .before .before .before .before .before .before .before .put .last .0) _ (kindName (a .kind)) _ _ (c .before .before .before .before .before .before .before .before .before .before .before .before .before .before .before .put .ensures) (c .before .before .before .before .before .before .before .before .before .before .before .put-kind .ensures))
     (c .before .before .before .before .before .before .put-named .ensures))
     (c .before .before .end-line .ensures))
 
 pub head-spec : {M : Type 1} → statement M
-head-spec = tie.close (tie.spec clear-requires same-length returns same-length-2 returns-2 slice-aggregate-put put-requires put-kind-requires slice-aggregate-put-named put-named-requires end-line-requires same-length-3 returns-3)
+head-spec = tie.close (tie.spec clear-bytes-requires same-length returns same-length-2 returns-2 slice-aggregate-put put-requires put-kind-requires slice-aggregate-put-named put-named-requires end-line-requires same-length-3 returns-3)

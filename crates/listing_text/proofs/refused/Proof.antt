@@ -8,8 +8,8 @@ use borrow.Author.Needs.{needs}
 use Rattle.listing_text.proofs.refused.Statement.{statement}
 use Rattle.listing_text.proofs.refused.Tie as tie
 
-clear-requires : tie.Need-clear-requires
-clear-requires c κs = search needs
+clear-bytes-requires : tie.Need-clear-bytes-requires
+clear-bytes-requires c κs = search needs
 
 slice-aggregate-put-named : tie.Need-slice-aggregate-put-named
 slice-aggregate-put-named c = search needs
@@ -33,9 +33,9 @@ returns : tie.Need-returns
 unfolding refusalOut
 returns c =
     let a = c .before .before .before .before .before .before .before .before .before .before .before .before .before .before .before .args in
-    text-out (a .out .now) (c .before .before .before .before .before .before .before .before .before .before .before .before .clear .last .0) (refusal= ++ decimal (refusalNumber (a .why))) (c .before .before .before .before .before .before .put-named .last .0) _ _ _ (c .before .before .before .before .before .before .before .before .before .before .before .before .clear .ensures)
+    text-out (a .out .now) (c .before .before .before .before .before .before .before .before .before .before .before .before .clear-bytes .last .0) (refusal= ++ decimal (refusalNumber (a .why))) (c .before .before .before .before .before .before .put-named .last .0) _ _ _ (c .before .before .before .before .before .before .before .before .before .before .before .before .clear-bytes .ensures)
     (named-number _ _ refusal= _ _ _ _ (c .before .before .before .before .before .before .before .number .ensures) (c .before .before .before .before .before .before .put-named .ensures))
     (c .before .before .end-line .ensures)
 
 pub refused-spec : {M : Type 1} → statement M
-refused-spec = tie.close (tie.spec clear-requires slice-aggregate-put-named number-requires cast-put-named put-named-requires end-line-requires same-length returns)
+refused-spec = tie.close (tie.spec clear-bytes-requires slice-aggregate-put-named number-requires cast-put-named put-named-requires end-line-requires same-length returns)

@@ -1,3 +1,5 @@
+-- `structs::read_u32` meets its contract: the test of the end decides, and inside it is the number with zeros past the end.
+-- Assumes nothing.
 use borrow.Author.Needs.{needs}
 use Rattle.structs.proofs.read_u32.Statement.{statement}
 use Rattle.structs.proofs.read_u32.Tie as tie

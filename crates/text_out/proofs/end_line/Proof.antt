@@ -10,14 +10,14 @@ slice-aggregate-put c = search needs
 put-requires : tie.Need-put-requires
 put-requires c κs = search needs
 
-clear-requires : tie.Need-clear-requires
-clear-requires c κs = search needs
+clear-bytes-requires : tie.Need-clear-bytes-requires
+clear-bytes-requires c κs = search needs
 
 same-length : tie.Need-same-length
 same-length c = search needs
 
 returns : tie.Need-returns
-returns c = ends-over _ _ (c .before .before .before .before .before .before .before .put .last .0) _ (c .before .before .before .before .before .before .before .put .ensures) _ (omega arith) (c .before .before .clear .ensures)
+returns c = ends-over _ _ (c .before .before .before .before .before .before .before .put .last .0) _ (c .before .before .before .before .before .before .before .put .ensures) _ (omega arith) (c .before .before .clear-bytes .ensures)
 
 same-length-2 : tie.Need-same-length-2
 same-length-2 c = search needs
@@ -26,4 +26,4 @@ returns-2 : tie.Need-returns-2
 returns-2 c = ends-fit _ _ _ _ (c .before .before .before .put .ensures) (omega arith)
 
 pub end-line-spec : {M : Type 1} → statement M
-end-line-spec = tie.close (tie.spec slice-aggregate-put put-requires clear-requires same-length returns same-length-2 returns-2)
+end-line-spec = tie.close (tie.spec slice-aggregate-put put-requires clear-bytes-requires same-length returns same-length-2 returns-2)

@@ -1,0 +1,54 @@
+-- `words::clear_wide` meets its contract: the words passed are 0.
+-- Assumes nothing.
+use Prim.Native.Nat.{_-_}
+use lib.ListN.{length}
+use borrow.Author.Needs.{needs}
+use native.Mathlib.Omega.{arith}
+use Rattle.words.proofs.Filled.{Filled, filled-more, filled-all}
+use Rattle.words.proofs.clear_wide.Statement.{statement}
+use Rattle.words.proofs.clear_wide.Tie as tie
+
+abbrev Inv-loop : tie.InvT-loop
+Inv-loop w₀ i₀ w i = Filled w₀ 0 w i
+
+abbrev μ-loop : tie.MeasureT-loop
+μ-loop w₀ i₀ w i = length w₀ - i
+
+loop-holds : tie.Need-loop-holds Inv-loop μ-loop
+loop-holds c = search needs
+
+mul-w : tie.Need-mul-w Inv-loop μ-loop
+mul-w c = search needs
+
+slice-write-w : tie.Need-slice-write-w Inv-loop μ-loop
+slice-write-w c = search needs
+
+add-i : tie.Need-add-i Inv-loop μ-loop
+add-i c = search needs
+
+loop-less : tie.Need-loop-less Inv-loop μ-loop
+loop-less c = search needs
+
+loop-again : tie.Need-loop-again Inv-loop μ-loop
+loop-again c = filled-more (c .before .before .args .w .now) 0 (c .before .loop .w) (c .before .loop .i) (c .before .loop .inv) (omega arith)
+
+same-length : tie.Need-same-length Inv-loop μ-loop
+same-length c = search needs
+
+returns : tie.Need-returns Inv-loop μ-loop
+returns c = filled-all (c .before .before .args .w .now) 0 (c .before .loop .w) (c .before .loop .i) (c .before .loop .inv) (omega arith)
+
+pub clear-wide-spec : {M : Type 1} → statement M
+clear-wide-spec =
+    tie.close
+    (tie.spec
+    Inv-loop
+    μ-loop
+    loop-holds
+    mul-w
+    slice-write-w
+    add-i
+    loop-less
+    loop-again
+    same-length
+    returns)
