@@ -10,7 +10,7 @@
  * proved to be safe, to end, and to answer as its definition says, for all values of all arguments. What C has to see to, since
  * nothing here can:
  *
- *   - a pointer and the length behind it, in elements, are memory that is there: aligned, and of at most PTRDIFF_MAX bytes. Where the
+ *   - a pointer and the length after it, in elements, are memory that is there: aligned, and of at most PTRDIFF_MAX bytes. Where the
  *     length is 0 the pointer may be null. Bytes and words that are only read have to be set;
  *   - the header record and the numbers are there in every call;
  *   - what is written (the lent outputs and the numbers) overlaps nothing else that is passed;
@@ -18,7 +18,7 @@
  *
  * Of every function:
  *
- *   - the lent outputs may hold anything beforehand. On success they hold the result, and zeros behind it up to their length;
+ *   - the lent outputs may hold anything beforehand. On success they hold the result, and zeros after it up to their length;
  *     on a refusal only zeros;
  *   - the numbers behind `size_t *` are set by every call, on a refusal to 0;
  *   - a file of more than 16,777,216 bytes is refused first (1), where there is a file;
@@ -103,7 +103,7 @@ enum { RINGLINDEN_STRING = 1, RINGLINDEN_TYPE = 2, RINGLINDEN_FIELD = 3, RINGLIN
 
 /*
  * The type ids, grouped by the string index of their descriptor. str_offsets: strings.size + 1 words, where each group begins and the
- * last ends; type_idxs: *count words, the groups one behind another, at most types.size. A type whose string index is not below
+ * last ends; type_idxs: *count words, the groups one after another, at most types.size. A type whose string index is not below
  * strings.size is in no group. Refusals: 1, 3, 4.
  */
 uint32_t ringlinden_type_groups(const uint8_t *file, size_t file_len, const uint32_t header[13],
@@ -136,13 +136,13 @@ uint32_t ringlinden_string_map(const uint8_t *file, size_t file_len, const uint3
                                size_t *count, size_t *start, size_t *end);
 
 /*
- * The bytes of the string whose data stand at an offset of the file: file[*start .. *start + *count], behind the length bytes and before
+ * The bytes of the string whose data stand at an offset of the file: file[*start .. *start + *count], after the length bytes and before
  * the zero. Refusals: 1; 6; 10, a fifth length byte above 0x0f; 5.
  */
 uint32_t ringlinden_string_bytes(const uint8_t *file, size_t file_len, size_t offset, size_t *start, size_t *count);
 
 /*
- * The searches take the keys and the area that ringlinden_string_map gave, with keys_len = *count: the zeros behind the keys of a longer
+ * The searches take the keys and the area that ringlinden_string_map gave, with keys_len = *count: the zeros after the keys of a longer
  * slice would be keys that don't rise (15). Their results rise, without repeats. An area backward or past the file's end finds nothing.
  */
 
@@ -190,7 +190,7 @@ uint32_t ringlinden_name_filter(const uint8_t *file, size_t file_len, const uint
  * The code table. starts: a word for each method, where its code begins, 0 without code; triples: three words for each of the *codes codes
  * found, first 16-byte block, last, and method; slots: *slot_count words, one for each block of the region, 0, or method + 1, or
  * 2^31 + number of a share; shares: *share_count words, three for each share; the region is file[*region_start .. *region_end],
- * whole blocks, so that it may end behind the file. Refusals: 1; 4, fewer start words than methods; then as the class data are
+ * whole blocks, so that it may end after the file. Refusals: 1; 4, fewer start words than methods; then as the class data are
  * read 3, 6, 7, 8; 4, one of the others is too short.
  */
 uint32_t ringlinden_code_table(const uint8_t *file, size_t file_len, const uint32_t header[13],

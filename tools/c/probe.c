@@ -122,7 +122,7 @@ static void put(size_t at, size_t x)
         file[at + (size_t)i] = (uint8_t)(x >> 8 * i);
 }
 
-/* A file of so many strings, two texts, a type and a method of each text, and code of one const-string for both methods. */
+/* A file of that many strings, two texts, a type and a method of each text, and code of one const-string for both methods. */
 static void make_up(size_t strings)
 {
     const size_t ids = 0x70, types = ids + 4 * strings, methods = types + 8, classes = methods + 16, texts = classes + 32;
@@ -273,7 +273,7 @@ static void prepare(const char *phrase)
 
 /* ---- null pointers */
 
-/* The outcome of a call whose slices of the mask have length 0: numbers, and the lent words one behind another. */
+/* The outcome of a call whose slices of the mask have length 0: numbers, and the lent words one after another. */
 static size_t outcome(const struct call *c, unsigned mask, void *empty, uint8_t *to)
 {
     struct slice s[SLICES];

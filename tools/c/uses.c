@@ -1,5 +1,5 @@
 /*
- * uses FILE.dex KIND: what the program `refs` prints behind its first two lines, for a file of any size and any number of indices, which are
+ * uses FILE.dex KIND: what the program `refs` prints after its first two lines, for a file of any size and any number of indices, which are
  * read from standard input, one to a line. KIND is string, type, field or method. Exit status 1 where a call is refused. ../check-refs
  * builds and runs it.
  */

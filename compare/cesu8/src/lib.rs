@@ -1,4 +1,4 @@
-//! Stand-in for the crate `cesu8`. The source decodes texts only where document 01 refuses (11) or leaves the path out, so what is
+//! Stand-in for the crate `cesu8`. The source decodes texts only where SPEC refuses (11) or leaves the path out, so what is
 //! decoded here is never compared; it only has to be there and not to panic.
 
 use std::borrow::Cow;

@@ -49,7 +49,7 @@ pub fn replay_takes(case: &Case) -> bool {
 /// What every lent word holds before a call; a lent key holds it twice.
 pub const LENT: u32 = 0xa5a5_a5a5;
 
-/// Document 01's largest file.
+/// The largest file (SPEC, Conventions).
 pub const LARGEST: usize = 16_777_216;
 
 /// The numbers 0 to 12 are the header record, 13 to 15 the operation's scalars. `lists` are the interface's const word slices in their
@@ -151,7 +151,7 @@ impl Case {
     }
 }
 
-/// Document 01's number (0 for success), the out numbers and the lent slices, both in the interface's order.
+/// The refusal's number (0 for success), the out numbers and the lent slices, both in the interface's order.
 #[derive(Clone, PartialEq, Debug)]
 pub struct Outcome {
     pub refusal: u32,
@@ -193,7 +193,7 @@ impl Outcome {
         }
     }
 
-    /// A success: each list, and zeros behind it up to the words lent. A list that doesn't fit stays as it is, and so differs.
+    /// A success: each list, and zeros after it up to the words lent. A list that doesn't fit stays as it is, and so differs.
     pub fn done(case: &Case, numbers: &[usize], lists: Vec<Vec<u64>>) -> Self {
         let (n, outs) = shape(case.op);
         assert!(numbers.len() == n && lists.len() == outs);

@@ -237,7 +237,7 @@ impl Inputs {
                 case.keys = (0..n).map(|i| ((from + 3 * i) as u64) << 32 | (n - 1 - i) as u64).collect();
                 (case.numbers[13], case.numbers[14]) = (from as u32, (from + 3 * n) as u32);
             }
-            // One text of two letters behind the file, and many keys in it whose indices are in any order.
+            // One text of two letters after the file, and many keys in it whose indices are in any order.
             _ if rng.one_in(6) => {
                 let (from, text, n) = (case.file.len(), 20 + rng.below(180), 1 + rng.below(40));
                 let letters: &[u8] = if rng.one_in(2) { b"aab" } else { b"bbbbbbbbbbbbbbbbbbba" };
@@ -368,7 +368,7 @@ impl Inputs {
                         }
                     }
                 }
-                // Openers where an instruction may stand, and indices behind them.
+                // Openers where an instruction may stand, and indices after them.
                 1..=4 => {
                     let (even, high) = (rng.below(2), !rng.one_in(4));
                     for at in (even..n).step_by(4) {
@@ -675,7 +675,7 @@ fn lend(case: &mut Case, rng: &mut Rng) {
     }
 }
 
-/// The cases of every run, however few it makes: a file of document 01's greatest length and one of a byte more, which every operation
+/// The cases of every run, however few it makes: a file of the greatest length and one of a byte more, which every operation
 /// refuses (1); a method index at its limit; name filters around the sizes at which ours changes its tables, and above all of them.
 pub fn always(op: u32) -> Vec<Case> {
     let mut cases: Vec<Case> = [LARGEST, LARGEST + 1].into_iter().flat_map(|n| at_length(op, n)).collect();
@@ -688,7 +688,7 @@ pub fn always(op: u32) -> Vec<Case> {
     cases
 }
 
-/// A file of n bytes, above document 01's limit or at it, and something to find at its end.
+/// A file of n bytes, above the limit or at it, and something to find at its end.
 fn at_length(op: u32, n: usize) -> Vec<Case> {
     let mut case = Case::new(op);
     case.file = vec![0; n];
@@ -794,8 +794,8 @@ fn great_indices() -> Case {
     case
 }
 
-/// A file of a header, so many string ids and four texts: string i is `ab`, `Xyc` or `b` by the remainder of i by 3. The fourth text, 12 bytes
-/// behind the ids, is not ASCII.
+/// A file of a header, that many string ids and four texts: string i is `ab`, `Xyc` or `b` by the remainder of i by 3. The fourth text, 12 bytes
+/// after the ids, is not ASCII.
 pub fn file_of_names(count: u32) -> Vec<u8> {
     let mut file = vec![0; 0x70];
     put(&mut file, 0x38, count);
@@ -943,7 +943,7 @@ fn counted(op: u32, index: u64) -> Option<Case> {
             c.lent[0] = d.take(2) as u32;
         }
         CODE_TABLE => {
-            // By the map, one class data item behind it, of any six bytes; a code item at 48 of one unit.
+            // By the map, one class data item after it, of any six bytes; a code item at 48 of one unit.
             let data = d.list(&[0x00u8, 0x01, 0x02, 0x30, 0x80], 7);
             let mut file = vec![0xff, 1, 0, 0, 0, 0, 0x20, 0, 0, 1, 0, 0, 0, 17, 0, 0, 0];
             file.extend(data);

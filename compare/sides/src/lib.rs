@@ -14,13 +14,13 @@ use case::{Case, Outcome, STRING_MAP};
 pub enum Expected {
     /// On the domain: the Rust's answer.
     Domain(Outcome),
-    /// Off it: document 01's.
+    /// Off it: SPEC's.
     Off(Outcome),
-    /// The Rust and document 01 differ on the domain, or the Rust panics where the paper has no fault and no word on it.
+    /// The Rust and SPEC differ on the domain, or the Rust panics where SPEC has no fault and no word on it.
     Dispute { theirs: Option<Outcome>, document: Outcome },
 }
 
-/// Whether the Rust may panic on a case without a fault, since document 01 says what ours does instead: ids whose key equals the pool size
+/// Whether the Rust may panic on a case without a fault, since SPEC says what ours does instead: ids whose key equals the pool size
 /// are dropped, and offsets that don't fit give the empty stretch. Any other such panic is reported.
 fn told_otherwise(case: &Case) -> bool {
     let word = |at: u64| case.file.get(at as usize..at as usize + 4).map(|b| u32::from_le_bytes(b.try_into().unwrap()));

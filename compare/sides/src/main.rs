@@ -1,4 +1,4 @@
-//! The comparison: ours against the Rust on the domain, against document 01 off it. Called by ../run, which says how.
+//! The comparison: ours against the Rust on the domain, against SPEC off it. Called by ../run, which says how.
 
 use sides::case::*;
 use sides::inputs::{self, Inputs};
@@ -9,11 +9,11 @@ use std::sync::atomic::{AtomicU64, Ordering::Relaxed};
 use std::sync::Mutex;
 use std::time::Instant;
 
-/// Reports of unequal cases are printed up to so many for an operation.
+/// Reports of unequal cases are printed up to that many for an operation.
 const REPORTS: u64 = 5;
 
-/// compared: on the domain, with the Rust; found: of the equal ones, with more than an empty answer. Off the domain, held against document
-/// 01: refused, and answered (the Rust panics, or can't be asked). numbers: the refusals that were met, on the domain and off it.
+/// compared: on the domain, with the Rust; found: of the equal ones, with more than an empty answer. Off the domain, held against SPEC:
+/// refused, and answered (the Rust panics, or can't be asked). numbers: the refusals that were met, on the domain and off it.
 const HEAD: &str = "operation         compared    equal    found  refused answered  unequal  numbers";
 
 enum Class {
@@ -63,9 +63,9 @@ fn report(case: &Case) -> String {
     let ours = line(&case).unwrap_or_else(|| ours::answer(&case).line(case.op));
     let (what, lines) = match expected(&case) {
         Expected::Domain(o) => ("ours differs from the Rust", vec![("Rust", o)]),
-        Expected::Off(o) => ("ours differs from document 01, off the domain", vec![("document 01", o)]),
-        Expected::Dispute { theirs: Some(t), document } => ("the Rust differs from document 01", vec![("Rust", t), ("document 01", document)]),
-        Expected::Dispute { theirs: None, document } => ("the Rust panics without a fault", vec![("document 01", document)]),
+        Expected::Off(o) => ("ours differs from SPEC, off the domain", vec![("SPEC", o)]),
+        Expected::Dispute { theirs: Some(t), document } => ("the Rust differs from SPEC", vec![("Rust", t), ("SPEC", document)]),
+        Expected::Dispute { theirs: None, document } => ("the Rust panics without a fault", vec![("SPEC", document)]),
     };
     let mut text = format!("UNEQUAL: {what}\n  {}\n  ours: {ours}\n", case.describe());
     for (who, outcome) in lines {

@@ -129,7 +129,7 @@ impl Dex {
     }
 }
 
-/// Some instructions, whole ones, and now and then bytes behind them.
+/// Some instructions, whole ones, and now and then bytes after them.
 fn instructions(rng: &mut Rng) -> Vec<u8> {
     const OPS: [u8; 20] = [
         0x00, 0x0e, 0x12, 0x1a, 0x1a, 0x1b, 0x1c, 0x1f, 0x22, 0x24, 0x52, 0x60, 0x6d, 0x6e, 0x71, 0x78, 0xfa, 0x18, 0x13, 0x28,
@@ -155,7 +155,7 @@ fn instructions(rng: &mut Rng) -> Vec<u8> {
     out
 }
 
-/// A small dex file: tables, string data in any order, code items, some with one code for several methods, class data one behind another,
+/// A small dex file: tables, string data in any order, code items, some with one code for several methods, class data one after another,
 /// a map with or without an entry for them.
 pub fn made_up(rng: &mut Rng) -> Dex {
     let counts = [rng.below(9), rng.below(6), 0, 0, rng.below(9), rng.below(4)];

@@ -1,4 +1,4 @@
-//! The Rust's answer to a case, turned into the lent form: sets as rising lists, zeros behind each list, shares as three words. `None`
+//! The Rust's answer to a case, turned into the lent form: sets as rising lists, zeros after each list, shares as three words. `None`
 //! where it panics. It must not be asked where `document::verdict` refuses by a number that is off the domain, nor where `hostile`.
 
 use crate::case::*;
@@ -10,7 +10,7 @@ use std::collections::{HashMap, HashSet};
 use std::panic::{catch_unwind, AssertUnwindSafe};
 use std::rc::Rc;
 
-/// Sizes from which the Rust would allocate in a call that document 01 refuses: it does so before it holds them against the file.
+/// Sizes from which the Rust would allocate in a call that SPEC refuses: it does so before it holds them against the file.
 pub fn hostile(case: &Case) -> bool {
     let sizes: &[u32] = match case.op {
         TYPE_GROUPS | STRING_MAP => &[case.strings().size],
@@ -72,7 +72,7 @@ fn rising(set: HashSet<u32>) -> Vec<u64> {
     list
 }
 
-/// Document 01's number for an error message.
+/// The refusal's number for an error message.
 fn number(message: &str) -> u32 {
     match message {
         "invalid DEX header" | "DEX string table overflow" | "DEX string table outside input" => 3,

@@ -1,4 +1,4 @@
-//! `asc_core::models::dvm_opcode`, which is not among the files of the source: document 01 gives its meaning, the length of an
+//! `asc_core::models::dvm_opcode`, which is not among the files of the source: SPEC, Instruction lengths, gives its meaning, the length of an
 //! instruction in units by its opcode byte.
 
 pub struct Opcode {

@@ -1,4 +1,4 @@
--- The map's entry of class data, which decides how the class data are found: an entry passed leaves the search over those behind it.
+-- The map's entry of class data, which decides how the class data are found: an entry passed leaves the search over those after it.
 -- Assumes nothing.
 use Prim.Native.Nat.{ℕ, zero, suc, _+_, _*_, _-_, _<_, _≤_}
 use native.Mathlib.Omega.{arith}
@@ -14,7 +14,7 @@ use Rattle.words.proofs.Shared.{cond-elim}
 use Rattle.dalvik.specs.Numbers.{le16, le32}
 use Rattle.tinydex.specs.declared.DexHeader.{DexHeader}
 use Rattle.class_data.specs.Codes.{successive, defined, entryFrom, mapEntry, byEntry, codesOf}
-use Rattle.class_data.specs.Steps.{Left, stored}
+use Rattle.class_data.specs.Steps.{Kept, Left, stored}
 use Rattle.class_data.specs.Reads.{place}
 use Rattle.class_data.specs.declared.item.Offset.the-variants as o
 use Rattle.class_data.proofs.Laws.{Word}
@@ -82,11 +82,12 @@ pub entry-in : (s : List ℕ) (i e : ℕ) → some e ≡ mapEntry s i → e + 12
 entry-in s i e q = subst (EntryR s) (sym q) (map-keeps s i)
 
 -- ---- the file
-module _ (s : List ℕ) (h : DexHeader) (ts zs : List ℕ) (d : Left) where
-  pub by-map : (e : ℕ) → some e ≡ mapEntry s (h .mapoff) → d ≡ stored 0 ts zs (successive (le32 s (e + 4)) s (h .methods .size) (le32 s (e + 8))) → d ≡ stored 0 ts zs (codesOf s h)
+module _ (s : List ℕ) (h : DexHeader) (x : Kept) (d : Left) where
+  pub by-map : (e : ℕ) → some e ≡ mapEntry s (h .mapoff) → d ≡ stored x (successive (le32 s (e + 4)) s (h .methods .size) (le32 s (e + 8)))
+      → d ≡ stored x (codesOf s h)
   unfolding codesOf
-  by-map e q g = g ∙ ap (λ (r : Option ℕ). stored 0 ts zs (byEntry s h r)) q
+  by-map e q g = g ∙ ap (λ (r : Option ℕ). stored x (byEntry s h r)) q
 
-  pub by-def : none ≡ mapEntry s (h .mapoff) → d ≡ stored 0 ts zs (defined (h .classes .size) s (h .methods .size) (h .classes .off)) → d ≡ stored 0 ts zs (codesOf s h)
+  pub by-def : none ≡ mapEntry s (h .mapoff) → d ≡ stored x (defined (h .classes .size) s (h .methods .size) (h .classes .off)) → d ≡ stored x (codesOf s h)
   unfolding codesOf
-  by-def q g = g ∙ ap (λ (r : Option ℕ). stored 0 ts zs (byEntry s h r)) q
+  by-def q g = g ∙ ap (λ (r : Option ℕ). stored x (byEntry s h r)) q

@@ -25,8 +25,8 @@ use Rattle.class_data.specs.Walk.Walk.{refused, found}
 pub use Rattle.class_data.proofs.Within.{CodeIn, Each}
 use Rattle.class_data.proofs.Within.{each-append, WithinR, class-within}
 use Rattle.class_data.specs.Codes.{successive, defined, mapEntry, byEntry, codesOf}
-use Rattle.class_data.specs.Stored.{triplesOf, startsOf}
-use Rattle.class_data.specs.Found.{fitting, codesIn, GivesCodes}
+use Rattle.class_data.specs.Stored.{CodeWords, triplesOf, startsOf}
+use Rattle.class_data.specs.Found.{fitting, codesIn, codesFor, GivesCodes}
 pub use Rattle.class_data.proofs.Kept.{length-triples}
 
 -- ---- all codes of a file
@@ -108,28 +108,28 @@ codes-fit s h nt nz cs e q =
     let d = fit-walk nt (codesOf s h) cs e (b .1) in
     record { small = ltb-false _ _ (a .0); room = leb-true _ _ (b .0); walk = d .0; fits = d .1 }
 
-pub record Taken (s : List ℕ) (h : DexHeader) (n : ℕ) (ts ts′ zs zs′ : List ℕ) : Type 0 where
+pub record Taken (s : List ℕ) (h : DexHeader) (n : ℕ) (before after : CodeWords) : Type 0 where
   pub codes : List Code
   pub next : ℕ
   pub walk : found codes next ≡ codesOf s h
   pub small : length s ≤ 16777216
-  pub room : h .methods .size ≤ length zs
-  pub fits : 3 * length codes ≤ length ts
+  pub room : h .methods .size ≤ length (before .starts)
+  pub fits : 3 * length codes ≤ length (before .triples)
   pub count : n ≡ length codes
-  pub triples : ts′ ≡ padded (length ts) (triplesOf codes)
-  pub starts : zs′ ≡ padded (length zs) (startsOf (h .methods .size) codes)
+  pub triples : after .triples ≡ padded (length (before .triples)) (triplesOf codes)
+  pub starts : after .starts ≡ padded (length (before .starts)) (startsOf (h .methods .size) codes)
   pub each : Each (CodeIn s (h .methods .size)) codes
 
-pub record NotTaken (s : List ℕ) (h : DexHeader) (r : Refusal) (ts ts′ zs zs′ : List ℕ) : Type 0 where
-  pub walk : refused r ≡ codesIn s h (length ts) (length zs)
-  pub triples : ts′ ≡ zeros (length ts)
-  pub starts : zs′ ≡ zeros (length zs)
+pub record NotTaken (s : List ℕ) (h : DexHeader) (r : Refusal) (before after : CodeWords) : Type 0 where
+  pub walk : refused r ≡ codesFor s h before
+  pub triples : after .triples ≡ zeros (length (before .triples))
+  pub starts : after .starts ≡ zeros (length (before .starts))
 
-module _ (s : List ℕ) (h : DexHeader) where
-  taken-by : (n : ℕ) (ts ts′ zs zs′ : List ℕ) (v : Walk) → v ≡ codesIn s h (length ts) (length zs) → GivesCodes (h .methods .size) v (Done n) ts ts′ zs zs′ → Taken s h n ts ts′ zs zs′
-  taken-by n ts ts′ zs zs′ (refused r) e g = absurd (let a = g .answer in let x : _≡_ {A = ℕ} 0 1 = cc in omega arith)
-  taken-by n ts ts′ zs zs′ (found cs i) e g =
-      let f = codes-fit s h (length ts) (length zs) cs i e in
+module _ (s : List ℕ) (h : DexHeader) (before after : CodeWords) where
+  taken-by : (n : ℕ) (v : Walk) → v ≡ codesFor s h before → GivesCodes (h .methods .size) v (Done n) before after → Taken s h n before after
+  taken-by n (refused r) e g = absurd (let a = g .answer in let x : _≡_ {A = ℕ} 0 1 = cc in omega arith)
+  taken-by n (found cs i) e g =
+      let f = codes-fit s h (length (before .triples)) (length (before .starts)) cs i e in
       let a = g .answer in
       record {
         codes = cs;
@@ -144,15 +144,19 @@ module _ (s : List ℕ) (h : DexHeader) where
         each = codes-sound s h cs i (f .walk);
       }
 
-  pub taken : (n : ℕ) (ts ts′ zs zs′ : List ℕ) → GivesCodes (h .methods .size) (codesIn s h (length ts) (length zs)) (Done n) ts ts′ zs zs′ → Taken s h n ts ts′ zs zs′
-  taken n ts ts′ zs zs′ g = taken-by n ts ts′ zs zs′ (codesIn s h (length ts) (length zs)) refl g
+  pub taken : (n : ℕ) → GivesCodes (h .methods .size) (codesFor s h before) (Done n) before after → Taken s h n before after
+  taken n g = taken-by n (codesFor s h before) refl g
 
-  not-by : (r : Refusal) (ts ts′ zs zs′ : List ℕ) (v : Walk) → v ≡ codesIn s h (length ts) (length zs) → GivesCodes (h .methods .size) v (Refused r) ts ts′ zs zs′ → NotTaken s h r ts ts′ zs zs′
-  not-by r ts ts′ zs zs′ (refused y) e g =
+  not-by : (r : Refusal) (v : Walk) → v ≡ codesFor s h before → GivesCodes (h .methods .size) v (Refused r) before after → NotTaken s h r before after
+  not-by r (refused y) e g =
       let a = g .answer in
       let x : refused r ≡ refused y = cc in
-      record { walk = x ∙ e; triples = g .triples ∙ padded-none (length ts); starts = g .starts ∙ padded-none (length zs) }
-  not-by r ts ts′ zs zs′ (found cs i) e g = absurd (let a = g .answer in let x : _≡_ {A = ℕ} 0 1 = cc in omega arith)
+      record {
+        walk = x ∙ e;
+        triples = g .triples ∙ padded-none (length (before .triples));
+        starts = g .starts ∙ padded-none (length (before .starts));
+      }
+  not-by r (found cs i) e g = absurd (let a = g .answer in let x : _≡_ {A = ℕ} 0 1 = cc in omega arith)
 
-  pub not-taken : (r : Refusal) (ts ts′ zs zs′ : List ℕ) → GivesCodes (h .methods .size) (codesIn s h (length ts) (length zs)) (Refused r) ts ts′ zs zs′ → NotTaken s h r ts ts′ zs zs′
-  not-taken r ts ts′ zs zs′ g = not-by r ts ts′ zs zs′ (codesIn s h (length ts) (length zs)) refl g
+  pub not-taken : (r : Refusal) → GivesCodes (h .methods .size) (codesFor s h before) (Refused r) before after → NotTaken s h r before after
+  not-taken r g = not-by r (codesFor s h before) refl g

@@ -1,4 +1,4 @@
--- The class data items, one behind another or by the class definitions: each loop's step goes on from what the step before it left.
+-- The class data items, one after another or by the class definitions: each loop's step goes on from what the step before it left.
 -- Assumes nothing.
 use Prim.Native.Nat.{ℕ, zero, suc, _+_, _*_, _-_, _^_, _<_, _≤_}
 use native.Mathlib.Omega.{arith}
@@ -14,125 +14,135 @@ use Rattle.class_data.specs.Walk.{Walk, andOn, classDataAt}
 use Rattle.class_data.specs.Walk.Walk.{refused}
 use Rattle.class_data.proofs.Laws.{Word}
 use Rattle.class_data.specs.Codes.{successive, defined}
-use Rattle.class_data.specs.Steps.{ItemPre, Left, stored, seen, DefinedOn, OneDefined}
+use Rattle.class_data.specs.Stored.{CodeWords}
+use Rattle.class_data.specs.Steps.{Kept, kept, ItemPre, Left, stored, seen, DefinedOn, OneDefined}
 use Rattle.class_data.specs.Steps.Left.{refusal, left}
 use Rattle.class_data.specs.declared.parse.Walked.{Walked}
 use Rattle.class_data.specs.declared.parse.Walked.the-variants as w
-use Rattle.class_data.proofs.Kept.{stored-on, stored-none, stored-refused, refused-stored}
+use Rattle.class_data.proofs.Kept.{stored-on, stored-none, stored-refused, refused-stored, Turn, turn, SameLengths, same-on}
 use Rattle.class_data.proofs.OneItem.{class-few}
 
 -- ---- the items of a map entry
-module _ (s : List ℕ) (m i k : ℕ) (ts zs : List ℕ) (d : Left) where
-  pub successive-again : (n e k′ : ℕ) (ts′ zs′ : List ℕ) → 0 < n → left e k′ ts′ zs′ ≡ stored k ts zs (classDataAt s m i)
-      → stored k ts zs (successive n s m i) ≡ d → stored k′ ts′ zs′ (successive (n - 1) s m e) ≡ d
+module _ (s : List ℕ) (m i : ℕ) (x : Kept) (d : Left) where
+  pub successive-again : (n e : ℕ) (y : Kept) → 0 < n → left e y ≡ stored x (classDataAt s m i)
+      → stored x (successive n s m i) ≡ d → stored y (successive (n - 1) s m e) ≡ d
   unfolding successive
-  successive-again zero e k′ ts′ zs′ z h q = absurd (omega arith)
-  successive-again (suc n) e k′ ts′ zs′ z h q = rw sub-one (stored-on k ts zs (classDataAt s m i) (λ a. successive n s m a) e k′ ts′ zs′ h ∙ q)
+  successive-again zero e y z h q = absurd (omega arith)
+  successive-again (suc n) e y z h q = rw sub-one (stored-on x (classDataAt s m i) (λ a. successive n s m a) e y h ∙ q)
 
-  pub successive-no : (n : ℕ) (r : Refusal) → 0 < n → refusal r ≡ stored k ts zs (classDataAt s m i)
-      → stored k ts zs (successive n s m i) ≡ d → refusal r ≡ d
+  pub successive-no : (n : ℕ) (r : Refusal) → 0 < n → refusal r ≡ stored x (classDataAt s m i)
+      → stored x (successive n s m i) ≡ d → refusal r ≡ d
   unfolding successive
   successive-no zero r z h q = absurd (omega arith)
   successive-no (suc n) r z h q =
-      refused-stored k ts zs _ r (ap (λ (x : Walk). andOn x (λ a. successive n s m a)) (stored-refused k ts zs (classDataAt s m i) r h)) ∙ q
+      refused-stored x _ r (ap (λ (w : Walk). andOn w (λ a. successive n s m a)) (stored-refused x (classDataAt s m i) r h)) ∙ q
 
-  pub successive-end : (n : ℕ) → n ≤ 0 → stored k ts zs (successive n s m i) ≡ d → left i k ts zs ≡ d
+  pub successive-end : (n : ℕ) → n ≤ 0 → stored x (successive n s m i) ≡ d → left i x ≡ d
   unfolding successive
-  successive-end zero z q = stored-none k i ts zs ∙ q
+  successive-end zero z q = stored-none x i ∙ q
   successive-end (suc n) z q = absurd (omega arith)
 
 -- the loop begins at the entry's words
-pub by-words : (s : List ℕ) (m n i n′ i′ k : ℕ) (ts zs : List ℕ) → n ≡ n′ → i ≡ i′ → stored k ts zs (successive n s m i) ≡ stored k ts zs (successive n′ s m i′)
-by-words s m n i n′ i′ k ts zs a b = λ j. stored k ts zs (successive (a j) s m (b j))
+pub by-words : (s : List ℕ) (m : ℕ) {n i n′ i′ : ℕ} (x : Kept) → n ≡ n′ → i ≡ i′ → stored x (successive n s m i) ≡ stored x (successive n′ s m i′)
+by-words s m x a b = λ j. stored x (successive (a j) s m (b j))
 
-pub record ByMap (s : List ℕ) (m n i : ℕ) (ts₀ zs₀ ts zs : List ℕ) (left at k : ℕ) : Type 0 where
-  pub rest : stored k ts zs (successive left s m at) ≡ stored 0 ts₀ zs₀ (successive n s m i)
-  pub most : left ≤ n
-  pub few : k ≤ 16777216 * (n - left)
-  pub long : length zs ≡ length zs₀
-  pub wide : length ts ≡ length ts₀
+-- what is left to walk is what was to be walked from the start; an item has fewer codes than the file has bytes
+pub record ByMap (s : List ℕ) (m : ℕ) (from at : Turn) : Type 0 where
+  pub rest : stored (at .held) (successive (at .togo) s m (at .pos)) ≡ stored (from .held) (successive (from .togo) s m (from .pos))
+  pub most : at .togo ≤ from .togo
+  pub few : at .held .count ≤ 16777216 * (from .togo - at .togo)
+  pub same : SameLengths (from .held .words) (at .held .words)
 
--- so many codes are counted, since an item has fewer than the file has bytes
-pub bymap-few : (s : List ℕ) (m n i : ℕ) (ts₀ zs₀ ts zs : List ℕ) (togo at k : ℕ) → ByMap s m n i ts₀ zs₀ ts zs togo at k → length s ≤ 16777216 → n < 2 ^ 32 → ItemPre s k
-bymap-few s m n i ts₀ zs₀ ts zs togo at k x small q = record { small = small; few = omega (arith, x .few) }
+module _ {s : List ℕ} {m : ℕ} {from at : Turn} (x : ByMap s m from at) (small : length s ≤ 16777216) where
+  -- the count stays small
+  pub bymap-few : from .togo < 2 ^ 32 → ItemPre s (at .held .count)
+  bymap-few q = record { small = small; few = omega (arith, x .few) }
 
--- a turn of the loop: the words keep their lengths, and an item has fewer codes than the file has bytes
-module _ (s : List ℕ) (m n i : ℕ) (ts₀ zs₀ ts zs : List ℕ) (togo at k : ℕ) (x : ByMap s m n i ts₀ zs₀ ts zs togo at k) (small : length s ≤ 16777216) (z : 0 < togo) where
-  pub bymap-again : (e k′ : ℕ) (ts′ zs′ : List ℕ) → left e k′ ts′ zs′ ≡ stored k ts zs (classDataAt s m at) → length zs′ ≡ length zs → length ts′ ≡ length ts
-      → ByMap s m n i ts₀ zs₀ ts′ zs′ (togo - 1) e k′
-  bymap-again e k′ ts′ zs′ h l w =
-      let f = class-few s m at k ts zs e k′ ts′ zs′ h in
-      record { rest = successive-again s m at k ts zs _ togo e k′ ts′ zs′ z h (x .rest); most = omega arith; few = omega arith; long = l ∙ x .long; wide = w ∙ x .wide }
+  -- a turn of the loop
+  pub bymap-again : 0 < at .togo → (e : ℕ) (y : Kept) → left e y ≡ stored (at .held) (classDataAt s m (at .pos)) → SameLengths (at .held .words) (y .words)
+      → ByMap s m from (turn (at .togo - 1) e y)
+  bymap-again z e y h l =
+      let f = class-few s m (at .pos) (at .held) e y h in
+      record {
+        rest = successive-again s m (at .pos) (at .held) _ (at .togo) e y z h (x .rest);
+        most = omega arith;
+        few = omega arith;
+        same = same-on (x .same) l;
+      }
 
 -- ---- a class definition
-module _ (s : List ℕ) (m i k : ℕ) (ts zs : List ℕ) where
-  pub def-outside : (ts′ zs′ : List ℕ) → length s < i + 24 + 4 → OneDefined s m i k ts zs (w.Refused TableOutside) ts′ zs′
+module _ (s : List ℕ) (m i : ℕ) (x : Kept) where
+  pub def-outside : (after : CodeWords) → length s < i + 24 + 4 → OneDefined s m i x (w.Refused TableOutside) after
   unfolding OneDefined defined
-  def-outside ts′ zs′ q =
+  def-outside after q =
       let p : length s < i + 28 = omega arith in
       λ n. rw (lt-leb _ _ p)
 
-  module _ (v : ℕ) (x : Word s (i + 24) v 4 (le32 s (i + 24))) where
+  module _ (v : ℕ) (word : Word s (i + 24) v 4 (le32 s (i + 24))) where
     abbrev def-fits : i + 28 ≤ length s
-    def-fits = omega arith
+    def-fits = omega (arith, word .inside)
 
     def-skips : v ≡ 0 → (n : ℕ) → defined n s m (i + 32) ≡ defined (suc n) s m i
     unfolding defined
-    def-skips z n = rw (le-leb _ _ def-fits, ← x .is, eq-eqb _ _ z)
+    def-skips z n = rw (le-leb _ _ def-fits, ← word .is, eq-eqb _ _ z)
 
     def-walks : (v ≡ 0 → ⊥) → (n : ℕ) → andOn (classDataAt s m v) (λ e. defined n s m (i + 32)) ≡ defined (suc n) s m i
     unfolding defined
-    def-walks z n = rw (le-leb _ _ def-fits, ← x .is, ne-eqb _ _ z)
+    def-walks z n = rw (le-leb _ _ def-fits, ← word .is, ne-eqb _ _ z)
 
-    pub def-none : (e : ℕ) → v ≡ 0 → OneDefined s m i k ts zs (w.Found e k) ts zs
+    pub def-none : (e : ℕ) → v ≡ 0 → OneDefined s m i x (w.Found e (x .count)) (x .words)
     unfolding OneDefined
-    def-none e z = record { rest = λ n. ap (stored k ts zs) (def-skips z n); few = omega arith }
+    def-none e z = record { rest = λ n. ap (stored x) (def-skips z n); few = omega arith }
 
-    pub def-some : (r : Walked) (ts′ zs′ : List ℕ) → (v ≡ 0 → ⊥) → seen r ts′ zs′ ≡ stored k ts zs (classDataAt s m v) → OneDefined s m i k ts zs r ts′ zs′
+    pub def-some : (r : Walked) (after : CodeWords) → (v ≡ 0 → ⊥) → seen r after ≡ stored x (classDataAt s m v) → OneDefined s m i x r after
     unfolding OneDefined seen
-    def-some (w.Found e k′) ts′ zs′ z h =
+    def-some (w.Found e k) after z h =
         record {
-          rest = λ n. stored-on k ts zs (classDataAt s m v) (λ a. defined n s m (i + 32)) e k′ ts′ zs′ h ∙ ap (stored k ts zs) (def-walks z n);
-          few = class-few s m v k ts zs e k′ ts′ zs′ h;
+          rest = λ n. stored-on x (classDataAt s m v) (λ a. defined n s m (i + 32)) e (kept k after) h ∙ ap (stored x) (def-walks z n);
+          few = class-few s m v x e (kept k after) h;
         }
-    def-some (w.Refused y) ts′ zs′ z h =
-        λ n. ap (λ (a : Walk). andOn a (λ e. defined n s m (i + 32))) (stored-refused k ts zs (classDataAt s m v) y h) ∙ def-walks z n
+    def-some (w.Refused y) after z h =
+        λ n. ap (λ (a : Walk). andOn a (λ e. defined n s m (i + 32))) (stored-refused x (classDataAt s m v) y h) ∙ def-walks z n
 
-module _ (s : List ℕ) (m i k : ℕ) (ts zs : List ℕ) (r : Walked) (ts′ zs′ : List ℕ) (q : OneDefined s m i k ts zs r ts′ zs′) where
-  pub def-told : (e k′ : ℕ) → r ≡ w.Found e k′ → DefinedOn s m i k k′ ts zs ts′ zs′
+module _ (s : List ℕ) (m i : ℕ) (x : Kept) (r : Walked) (after : CodeWords) (q : OneDefined s m i x r after) where
+  pub def-told : (e k : ℕ) → r ≡ w.Found e k → DefinedOn s m i x (kept k after)
   unfolding OneDefined
-  def-told e k′ h = subst (λ (x : Walked). OneDefined s m i k ts zs x ts′ zs′) h q
+  def-told e k h = subst (λ (y : Walked). OneDefined s m i x y after) h q
 
   pub def-refused : (y : Refusal) → r ≡ w.Refused y → (n : ℕ) → refused y ≡ defined (suc n) s m i
   unfolding OneDefined
-  def-refused y h = subst (λ (x : Walked). OneDefined s m i k ts zs x ts′ zs′) h q
+  def-refused y h = subst (λ (z : Walked). OneDefined s m i x z after) h q
 
-module _ (s : List ℕ) (m i k : ℕ) (ts zs : List ℕ) (d : Left) where
-  pub defined-again : (n k′ : ℕ) (ts′ zs′ : List ℕ) → 0 < n → DefinedOn s m i k k′ ts zs ts′ zs′
-      → stored k ts zs (defined n s m i) ≡ d → stored k′ ts′ zs′ (defined (n - 1) s m (i + 32)) ≡ d
-  defined-again zero k′ ts′ zs′ z h q = absurd (omega arith)
-  defined-again (suc n) k′ ts′ zs′ z h q = rw sub-one (h .rest n ∙ q)
+module _ (s : List ℕ) (m i : ℕ) (x : Kept) (d : Left) where
+  pub defined-again : (n : ℕ) (y : Kept) → 0 < n → DefinedOn s m i x y → stored x (defined n s m i) ≡ d → stored y (defined (n - 1) s m (i + 32)) ≡ d
+  defined-again zero y z h q = absurd (omega arith)
+  defined-again (suc n) y z h q = rw sub-one (h .rest n ∙ q)
 
   pub defined-no : (n : ℕ) (r : Refusal) → 0 < n → ((n : ℕ) → refused r ≡ defined (suc n) s m i)
-      → stored k ts zs (defined n s m i) ≡ d → refusal r ≡ d
+      → stored x (defined n s m i) ≡ d → refusal r ≡ d
   defined-no zero r z h q = absurd (omega arith)
-  defined-no (suc n) r z h q = refused-stored k ts zs _ r (h n) ∙ q
+  defined-no (suc n) r z h q = refused-stored x _ r (h n) ∙ q
 
-  pub defined-end : (n : ℕ) → n ≤ 0 → stored k ts zs (defined n s m i) ≡ d → left i k ts zs ≡ d
+  pub defined-end : (n : ℕ) → n ≤ 0 → stored x (defined n s m i) ≡ d → left i x ≡ d
   unfolding defined
-  defined-end zero z q = stored-none k i ts zs ∙ q
+  defined-end zero z q = stored-none x i ∙ q
   defined-end (suc n) z q = absurd (omega arith)
 
-pub record ByDef (s : List ℕ) (m n i : ℕ) (ts₀ zs₀ ts zs : List ℕ) (at left k : ℕ) : Type 0 where
-  pub rest : stored k ts zs (defined left s m at) ≡ stored 0 ts₀ zs₀ (defined n s m i)
-  pub most : left ≤ n
-  pub place : at ≡ i + 32 * (n - left)
-  pub few : k ≤ 16777216 * (n - left)
-  pub long : length zs ≡ length zs₀
-  pub wide : length ts ≡ length ts₀
+-- what is left to walk is what was to be walked from the start
+pub record ByDef (s : List ℕ) (m : ℕ) (from at : Turn) : Type 0 where
+  pub rest : stored (at .held) (defined (at .togo) s m (at .pos)) ≡ stored (from .held) (defined (from .togo) s m (from .pos))
+  pub most : at .togo ≤ from .togo
+  pub place : at .pos ≡ from .pos + 32 * (from .togo - at .togo)
+  pub few : at .held .count ≤ 16777216 * (from .togo - at .togo)
+  pub same : SameLengths (from .held .words) (at .held .words)
 
-module _ (s : List ℕ) (m n i : ℕ) (ts₀ zs₀ ts zs : List ℕ) (at togo k : ℕ) (x : ByDef s m n i ts₀ zs₀ ts zs at togo k) (small : length s ≤ 16777216) (z : 0 < togo) where
-  pub bydef-again : (k′ : ℕ) (ts′ zs′ : List ℕ) → DefinedOn s m at k k′ ts zs ts′ zs′ → length zs′ ≡ length zs → length ts′ ≡ length ts
-      → ByDef s m n i ts₀ zs₀ ts′ zs′ (at + 32) (togo - 1) k′
-  bydef-again k′ ts′ zs′ g l w =
-      record { rest = defined-again s m at k ts zs _ togo k′ ts′ zs′ z g (x .rest); most = omega arith; place = omega arith; few = omega arith; long = l ∙ x .long; wide = w ∙ x .wide }
+pub bydef-again : {s : List ℕ} {m : ℕ} {from at : Turn} → ByDef s m from at → length s ≤ 16777216 → 0 < at .togo
+    → (y : Kept) → DefinedOn s m (at .pos) (at .held) y → SameLengths (at .held .words) (y .words)
+    → ByDef s m from (turn (at .togo - 1) (at .pos + 32) y)
+bydef-again {s} {m} {from} {at} x small z y g l = record {
+  rest = defined-again s m (at .pos) (at .held) _ (at .togo) y z g (x .rest);
+  most = omega arith;
+  place = omega arith;
+  few = omega arith;
+  same = same-on (x .same) l;
+}

@@ -1,4 +1,4 @@
--- What a walk leaves in lent words: a walk and then another store one list behind the other, so that each step goes on from what the
+-- What a walk leaves in lent words: a walk and then another store one list after the other, so that each step goes on from what the
 -- one before it left.
 -- Assumes nothing.
 use Prim.Native.Nat.{ℕ, suc, _+_, _*_}
@@ -12,8 +12,8 @@ use Rattle.dalvik.specs.CodeItem.{Code}
 use Rattle.refusal.specs.declared.Refusal.{Refusal}
 use Rattle.class_data.specs.Walk.{Walk, behind, andOn}
 use Rattle.class_data.specs.Walk.Walk.{refused, found}
-use Rattle.class_data.specs.Stored.{triplesOf, startsFrom}
-use Rattle.class_data.specs.Steps.{Left, stored, seen}
+use Rattle.class_data.specs.Stored.{CodeWords, codeWords, triplesOf, startsFrom}
+use Rattle.class_data.specs.Steps.{Kept, kept, more, Left, stored, seen}
 use Rattle.class_data.specs.Steps.Left.{refusal, left}
 use Rattle.class_data.specs.declared.parse.Walked.{Walked}
 use Rattle.class_data.specs.declared.parse.Walked.the-variants as w
@@ -24,7 +24,7 @@ unfolding triplesOf
 length-triples [] = refl
 length-triples (c ∷ cs) = omega (arith, length-triples cs)
 
--- ---- two lists stored one behind the other
+-- ---- two lists stored one after the other
 sets-append : (l : List ℕ) (i : ℕ) (xs ys : List ℕ) → sets l i (xs ++ ys) ≡ sets (sets l i xs) (i + length xs) ys
 sets-append l i [] ys = ap (λ (k : ℕ). sets l k ys) (sym (add-zero i))
 sets-append l i (x ∷ xs) ys =
@@ -40,59 +40,59 @@ starts-append : (zs : List ℕ) (xs ys : List Code) → startsFrom zs (xs ++ ys)
 starts-append zs [] ys = refl
 starts-append zs (c ∷ xs) ys = starts-append _ xs ys
 
-pub stored-behind : (k : ℕ) (ts zs : List ℕ) (cs : List Code) (v : Walk)
-    → stored (k + length cs) (sets ts (3 * k) (triplesOf cs)) (startsFrom zs cs) v ≡ stored k ts zs (behind cs v)
+pub stored-behind : (x : Kept) (cs : List Code) (v : Walk) → stored (more x cs) v ≡ stored x (behind cs v)
 unfolding stored
-stored-behind k ts zs cs (refused r) = refl
-stored-behind k ts zs cs (found ds e) =
+stored-behind x cs (refused r) = refl
+stored-behind x cs (found ds e) =
+    let k : ℕ = x .count in
+    let ts : List ℕ = x .words .triples in
+    let zs : List ℕ = x .words .starts in
     let n : k + length cs + length ds ≡ k + length (cs ++ ds) = omega (arith, length-append cs ds) in
     let i : 3 * (k + length cs) ≡ 3 * k + length (triplesOf cs) = omega (arith, length-triples cs) in
     let t : sets (sets ts (3 * k) (triplesOf cs)) (3 * (k + length cs)) (triplesOf ds) ≡ sets ts (3 * k) (triplesOf (cs ++ ds))
     = rw i (sym (sets-append ts (3 * k) (triplesOf cs) (triplesOf ds)) ∙ ap (sets ts (3 * k)) (sym (triples-append cs ds))) in
     let z : startsFrom (startsFrom zs cs) ds ≡ startsFrom zs (cs ++ ds) = sym (starts-append zs cs ds) in
-    λ j. left e (n j) (t j) (z j)
+    λ j. left e (kept (n j) (codeWords (t j) (z j)))
 
-pub stored-none : (k e : ℕ) (ts zs : List ℕ) → left e k ts zs ≡ stored k ts zs (found [] e)
+pub stored-none : (x : Kept) (e : ℕ) → left e x ≡ stored x (found [] e)
 unfolding stored triplesOf
-stored-none k e ts zs = ap (λ (n : ℕ). left e n ts zs) (sym (add-zero k))
+stored-none x e = ap (λ (n : ℕ). left e (kept n (x .words))) (sym (add-zero (x .count)))
 
--- what stands behind a walk goes on from what the walk left
-pub stored-on : (k : ℕ) (ts zs : List ℕ) (v : Walk) (f : ℕ → Walk) (e k′ : ℕ) (ts′ zs′ : List ℕ)
-    → left e k′ ts′ zs′ ≡ stored k ts zs v → stored k′ ts′ zs′ (f e) ≡ stored k ts zs (andOn v f)
+-- what stands after a walk goes on from what the walk left
+pub stored-on : (x : Kept) (v : Walk) (f : ℕ → Walk) (e : ℕ) (y : Kept) → left e y ≡ stored x v → stored y (f e) ≡ stored x (andOn v f)
 unfolding stored
-stored-on k ts zs (refused r) f e k′ ts′ zs′ q = absurd (let x : _≡_ {A = ℕ} 0 1 = cc in omega arith)
-stored-on k ts zs (found cs i) f e k′ ts′ zs′ q =
+stored-on x (refused r) f e y q = absurd (let z : _≡_ {A = ℕ} 0 1 = cc in omega arith)
+stored-on x (found cs i) f e y q =
     let a : e ≡ i = cc in
-    let b : k′ ≡ k + length cs = cc in
-    let c : ts′ ≡ sets ts (3 * k) (triplesOf cs) = cc in
-    let d : zs′ ≡ startsFrom zs cs = cc in
-    (λ j. stored (b j) (c j) (d j) (f (a j))) ∙ stored-behind k ts zs cs (f i)
+    let b : y ≡ more x cs = cc in
+    (λ j. stored (b j) (f (a j))) ∙ stored-behind x cs (f i)
 
-pub stored-refused : (k : ℕ) (ts zs : List ℕ) (v : Walk) (r : Refusal) → refusal r ≡ stored k ts zs v → refused r ≡ v
+pub stored-refused : (x : Kept) (v : Walk) (r : Refusal) → refusal r ≡ stored x v → refused r ≡ v
 unfolding stored
-stored-refused k ts zs (refused x) r q = cc
-stored-refused k ts zs (found cs e) r q = absurd (let x : _≡_ {A = ℕ} 0 1 = cc in omega arith)
+stored-refused x (refused y) r q = cc
+stored-refused x (found cs e) r q = absurd (let z : _≡_ {A = ℕ} 0 1 = cc in omega arith)
 
-pub refused-stored : (k : ℕ) (ts zs : List ℕ) (v : Walk) (r : Refusal) → refused r ≡ v → refusal r ≡ stored k ts zs v
+pub refused-stored : (x : Kept) (v : Walk) (r : Refusal) → refused r ≡ v → refusal r ≡ stored x v
 unfolding stored
-refused-stored k ts zs v r q = rw (← q)
+refused-stored x v r q = rw (← q)
 
 -- a walk that left something has found something
-pub record LeftBy (k : ℕ) (ts zs : List ℕ) (v : Walk) (e k′ : ℕ) (ts′ zs′ : List ℕ) : Type 0 where
+pub record LeftBy (x : Kept) (v : Walk) (e : ℕ) (y : Kept) : Type 0 where
   pub codes : List Code
   pub walk : found codes e ≡ v
-  pub count : k′ ≡ k + length codes
-  pub triples : ts′ ≡ sets ts (3 * k) (triplesOf codes)
-  pub starts : zs′ ≡ startsFrom zs codes
+  pub is : y ≡ more x codes
+  pub count : y .count ≡ x .count + length codes
 
-pub left-by : (k : ℕ) (ts zs : List ℕ) (v : Walk) (e k′ : ℕ) (ts′ zs′ : List ℕ) → left e k′ ts′ zs′ ≡ stored k ts zs v → LeftBy k ts zs v e k′ ts′ zs′
+pub left-by : (x : Kept) (v : Walk) (e : ℕ) (y : Kept) → left e y ≡ stored x v → LeftBy x v e y
 unfolding stored
-left-by k ts zs (refused r) e k′ ts′ zs′ q = absurd (let x : _≡_ {A = ℕ} 0 1 = cc in omega arith)
-left-by k ts zs (found cs i) e k′ ts′ zs′ q = record { codes = cs; walk = (cc); count = (cc); triples = (cc); starts = (cc) }
+left-by x (refused r) e y q = absurd (let z : _≡_ {A = ℕ} 0 1 = cc in omega arith)
+left-by x (found cs i) e y q =
+    let b : y ≡ more x cs = cc in
+    record { codes = cs; walk = (cc); is = b; count = ap (λ (z : Kept). z .count) b }
 
 -- ---- an answer's case
-module _ (v : Walked) (ts zs : List ℕ) (d : Left) (e : seen v ts zs ≡ d) where
-  pub seen-found : (i k : ℕ) → v ≡ w.Found i k → left i k ts zs ≡ d
+module _ (v : Walked) (ws : CodeWords) (d : Left) (e : seen v ws ≡ d) where
+  pub seen-found : (i k : ℕ) → v ≡ w.Found i k → left i (kept k ws) ≡ d
   unfolding seen
   seen-found i k q = rw q at e
 
@@ -100,11 +100,28 @@ module _ (v : Walked) (ts zs : List ℕ) (d : Left) (e : seen v ts zs ≡ d) whe
   unfolding seen
   seen-refused r q = rw q at e
 
-module _ (ts zs : List ℕ) (d : Left) where
-  pub found-seen : (i k : ℕ) → left i k ts zs ≡ d → seen (w.Found i k) ts zs ≡ d
+module _ (ws : CodeWords) (d : Left) where
+  pub found-seen : (i k : ℕ) → left i (kept k ws) ≡ d → seen (w.Found i k) ws ≡ d
   unfolding seen
   found-seen i k e = e
 
-  pub refused-seen : (r : Refusal) → refusal r ≡ d → seen (w.Refused r) ts zs ≡ d
+  pub refused-seen : (r : Refusal) → refusal r ≡ d → seen (w.Refused r) ws ≡ d
   unfolding seen
   refused-seen r e = e
+
+-- ---- a loop: how many are left, the next offset, and what is stored so far
+pub record Turn : Type 0 where
+  pub togo : ℕ
+  pub pos : ℕ
+  pub held : Kept
+
+abbrev pub turn : ℕ → ℕ → Kept → Turn
+turn togo pos held = record { togo = togo; pos = pos; held = held }
+
+-- the lent words keep their lengths
+pub record SameLengths (before after : CodeWords) : Type 0 where
+  pub triples : length (after .triples) ≡ length (before .triples)
+  pub starts : length (after .starts) ≡ length (before .starts)
+
+pub same-on : {a b c : CodeWords} → SameLengths a b → SameLengths b c → SameLengths a c
+same-on p q = record { triples = q .triples ∙ p .triples; starts = q .starts ∙ p .starts }

@@ -22,13 +22,15 @@ use Rattle.leb128.specs.declared.Uleb.the-variants as u
 use Rattle.leb128.specs.declared.Len.the-variants as l
 use Rattle.leb128.proofs.Laws.{fast-keeps}
 use Rattle.refusal.specs.declared.Refusal.{Refusal}
-use Rattle.refusal.specs.declared.Refusal.the-variants.{NumberOutside, MethodIndex}
+use Rattle.refusal.specs.declared.Refusal.the-variants.{MethodIndex}
 use Rattle.dalvik.specs.CodeItem.{insns-size}
 use Rattle.class_data.specs.Walk.{skipped, twoAt, sizesAt, codeInside, methodsFrom}
 use Rattle.class_data.specs.Walk.Walk.{refused}
 use Rattle.class_data.specs.Reads.{place, HeadAt, HeadRead, itemAt}
 use Rattle.class_data.specs.declared.item.Offset.{Offset}
 use Rattle.class_data.specs.declared.item.Offset.the-variants as o
+use Rattle.class_data.specs.declared.item.Skipped.{Skipped}
+use Rattle.class_data.specs.declared.item.Skipped.the-variants as k
 use Rattle.class_data.specs.declared.item.Two.the-variants as n
 use Rattle.class_data.specs.declared.item.Sizes.the-variants as z
 use Rattle.class_data.specs.declared.item.Head.{Head}
@@ -90,44 +92,44 @@ module _ (r : Offset) (d : Option ℕ) (e : place r ≡ d) where
 
 -- ---- numbers skipped
 module _ (s : List ℕ) (i : ℕ) where
-  pub skipped-again : (n m : ℕ) (r : Option ℕ) → 0 < n → l.Bytes m ≡ ulebLen s i → skipped n s i ≡ r → skipped (n - 1) s (i + m) ≡ r
+  pub skipped-again : (n m : ℕ) (r : Skipped) → 0 < n → l.Bytes m ≡ ulebLen s i → skipped n s i ≡ r → skipped (n - 1) s (i + m) ≡ r
   unfolding skipped
   skipped-again zero m r z e q = absurd (omega arith)
   skipped-again (suc n) m r z e q = rw sub-one (rw (← e) at q)
 
-  pub skipped-off : (n : ℕ) (r : Option ℕ) → 0 < n → l.RunsOff ≡ ulebLen s i → skipped n s i ≡ r → place o.Nowhere ≡ r
-  unfolding skipped place
-  skipped-off zero r z e q = absurd (omega arith)
-  skipped-off (suc n) r z e q = rw (← e) at q
+  pub skipped-no : (n : ℕ) (r : Skipped) (y : Refusal) → 0 < n → l.Refused y ≡ ulebLen s i → skipped n s i ≡ r → k.Refused y ≡ r
+  unfolding skipped
+  skipped-no zero r y z e q = absurd (omega arith)
+  skipped-no (suc n) r y z e q = rw (← e) at q
 
-  pub skipped-end : (n : ℕ) (r : Option ℕ) → n ≤ 0 → skipped n s i ≡ r → place (o.At i) ≡ r
-  unfolding skipped place
+  pub skipped-end : (n : ℕ) (r : Skipped) → n ≤ 0 → skipped n s i ≡ r → k.To i ≡ r
+  unfolding skipped
   skipped-end zero r z q = q
   skipped-end (suc n) r z q = absurd (omega arith)
 
 -- ---- the sizes that open a class data item
 module _ (s : List ℕ) (i : ℕ) where
-  pub two-off1 : u.RunsOff ≡ ulebFast s i → n.RunsOff ≡ twoAt s i
+  pub two-no1 : (y : Refusal) → u.Refused y ≡ ulebFast s i → n.Refused y ≡ twoAt s i
   unfolding twoAt
-  two-off1 e = rw (← e)
+  two-no1 y e = rw (← e)
 
   module _ (x a : ℕ) (e1 : u.Number x a ≡ ulebFast s i) where
-    pub two-off2 : u.RunsOff ≡ ulebFast s (i + a) → n.RunsOff ≡ twoAt s i
+    pub two-no2 : (y : Refusal) → u.Refused y ≡ ulebFast s (i + a) → n.Refused y ≡ twoAt s i
     unfolding twoAt
-    two-off2 e = rw (← e1, ← e)
+    two-no2 y e = rw (← e1, ← e)
 
     pub two-at : (y b : ℕ) → u.Number y b ≡ ulebFast s (i + a) → n.At x y (i + a + b) ≡ twoAt s i
     unfolding twoAt
     two-at y b e2 = rw (← e1, ← e2)
 
-  pub sizes-off1 : n.RunsOff ≡ twoAt s i → z.RunsOff ≡ sizesAt s i
+  pub sizes-no1 : (y : Refusal) → n.Refused y ≡ twoAt s i → z.Refused y ≡ sizesAt s i
   unfolding sizesAt
-  sizes-off1 e = rw (← e)
+  sizes-no1 y e = rw (← e)
 
   module _ (x y p : ℕ) (e1 : n.At x y p ≡ twoAt s i) where
-    pub sizes-off2 : n.RunsOff ≡ twoAt s p → z.RunsOff ≡ sizesAt s i
+    pub sizes-no2 : (y : Refusal) → n.Refused y ≡ twoAt s p → z.Refused y ≡ sizesAt s i
     unfolding sizesAt
-    sizes-off2 e = rw (← e1, ← e)
+    sizes-no2 y e = rw (← e1, ← e)
 
     pub sizes-at : (d v q : ℕ) → n.At d v q ≡ twoAt s p → z.At (2 * ((x + y) % 4294967296)) d v q ≡ sizesAt s i
     unfolding sizesAt
@@ -135,9 +137,9 @@ module _ (s : List ℕ) (i : ℕ) where
 
 -- ---- the numbers of a method
 module _ (s : List ℕ) (i m : ℕ) where
-  pub head-off1 : u.RunsOff ≡ ulebFast s i → HeadRead s i m (h.Refused NumberOutside)
+  pub head-no1 : (y : Refusal) → u.Refused y ≡ ulebFast s i → HeadRead s i m (h.Refused y)
   unfolding methodsFrom HeadRead
-  head-off1 e = λ methods n. rw (← e)
+  head-no1 y e = λ methods n. rw (← e)
 
   module _ (d a : ℕ) (e1 : u.Number d a ≡ ulebFast s i) where
     pub head-index : 4294967296 ≤ m + d % 4294967296 → HeadRead s i m (h.Refused MethodIndex)
@@ -145,14 +147,14 @@ module _ (s : List ℕ) (i m : ℕ) where
     head-index q = λ methods n. rw (← e1, le-ltb _ _ q)
 
     module _ (q : m + d % 4294967296 < 4294967296) where
-      pub head-off2 : u.RunsOff ≡ ulebFast s (i + a) → HeadRead s i m (h.Refused NumberOutside)
+      pub head-no2 : (y : Refusal) → u.Refused y ≡ ulebFast s (i + a) → HeadRead s i m (h.Refused y)
       unfolding methodsFrom HeadRead
-      head-off2 e = λ methods n. rw (← e1, lt-ltb _ _ q, ← e)
+      head-no2 y e = λ methods n. rw (← e1, lt-ltb _ _ q, ← e)
 
       module _ (x b : ℕ) (e2 : u.Number x b ≡ ulebFast s (i + a)) where
-        pub head-off3 : u.RunsOff ≡ ulebFast s (i + a + b) → HeadRead s i m (h.Refused NumberOutside)
+        pub head-no3 : (y : Refusal) → u.Refused y ≡ ulebFast s (i + a + b) → HeadRead s i m (h.Refused y)
         unfolding methodsFrom HeadRead
-        head-off3 e = λ methods n. rw (← e1, lt-ltb _ _ q, ← e2, ← e)
+        head-no3 y e = λ methods n. rw (← e1, lt-ltb _ _ q, ← e2, ← e)
 
         pub head-at : (v c : ℕ) → u.Number v c ≡ ulebFast s (i + a + b) → HeadRead s i m (h.At (i + a + b + c) (m + d % 4294967296) (v % 4294967296))
         unfolding methodsFrom HeadRead

@@ -4,15 +4,14 @@ use Prim.Native.Nat.{ℕ, suc, _<_, _≤_}
 use mathlib.Core.Path.{_≡_, ap, subst, _∙_}
 use mathlib.Core.Bool.{true, false}
 use mathlib.Core.List.{List, [], _∷_}
-use mathlib.Core.Option.{none, some}
 use borrow.Author.Tests.{lt-ltb, le-ltb, eq-eqb, ne-eqb}
 use Rattle.refusal.specs.declared.Refusal.{Refusal}
-use Rattle.refusal.specs.declared.Refusal.the-variants.{NumberOutside, MethodIndex, CodeOutside}
-use Rattle.class_data.specs.Walk.{Walk, behind, andOn, skipped, sizesAt, methodsAt, onMethods, codeAt, codeInside, withMethod, methodsFrom, classDataAt}
+use Rattle.refusal.specs.declared.Refusal.the-variants.{MethodIndex, CodeOutside}
+use Rattle.class_data.specs.Walk.{Walk, behind, andOn, skipped, sizesAt, methodsAt, codeAt, codeInside, withMethod, methodsFrom, classDataAt}
 use Rattle.class_data.specs.Walk.Walk.{refused}
 use Rattle.class_data.specs.Reads.{HeadAt, itemAt, BareAt, CodedAt, MethodRead}
+use Rattle.class_data.specs.declared.item.Skipped.the-variants as k
 use Rattle.class_data.specs.declared.item.Sizes.the-variants as z
-use Rattle.class_data.specs.declared.item.Methods.{Methods}
 use Rattle.class_data.specs.declared.item.Methods.the-variants as m
 use Rattle.class_data.specs.declared.item.Item.the-variants as t
 use Rattle.class_data.specs.declared.item.Method.{Method}
@@ -21,35 +20,24 @@ use Rattle.class_data.proofs.Laws.{item-out, item-in, item-facts}
 
 -- ---- an item up to its methods
 module _ (s : List ℕ) (i : ℕ) where
-  pub methods-off : z.RunsOff ≡ sizesAt s i → m.RunsOff ≡ methodsAt s i
+  pub methods-no1 : (y : Refusal) → z.Refused y ≡ sizesAt s i → m.Refused y ≡ methodsAt s i
   unfolding methodsAt
-  methods-off e = rw (← e)
+  methods-no1 y e = rw (← e)
 
   module _ (n a v p : ℕ) (e : z.At n a v p ≡ sizesAt s i) where
-    pub methods-none : none ≡ skipped n s p → m.RunsOff ≡ methodsAt s i
+    pub methods-no2 : (y : Refusal) → k.Refused y ≡ skipped n s p → m.Refused y ≡ methodsAt s i
     unfolding methodsAt
-    methods-none q = rw (← e, ← q)
+    methods-no2 y q = rw (← e, ← q)
 
-    pub methods-at : (k : ℕ) → some k ≡ skipped n s p → m.At a v k ≡ methodsAt s i
+    pub methods-at : (o : ℕ) → k.To o ≡ skipped n s p → m.At a v o ≡ methodsAt s i
     unfolding methodsAt
-    methods-at k q = rw (← e, ← q)
-
-on-methods : (P : Walk → Type 0) (r : Methods) (f : ℕ → ℕ → ℕ → Walk) → P (refused NumberOutside) → ((a v p : ℕ) → P (f a v p)) → P (onMethods r f)
-on-methods P (m.At a v p) f x g = g a v p
-on-methods P m.RunsOff f x g = x
+    methods-at o q = rw (← e, ← q)
 
 -- the item is walked from its first method on
 module _ (s : List ℕ) (methods i : ℕ) where
-  -- what holds of a number's refusal and of every walk from a first method holds of the item
-  pub class-any : (P : Walk → Type 0) → P (refused NumberOutside)
-      → ((a v p : ℕ) → P (andOn (methodsFrom a s methods p 0) (λ f. methodsFrom v s methods f 0)))
-      → P (classDataAt s methods i)
+  pub class-refused : (y : Refusal) → m.Refused y ≡ methodsAt s i → refused y ≡ classDataAt s methods i
   unfolding classDataAt
-  class-any P x g = on-methods P (methodsAt s i) _ x g
-
-  pub class-off : m.RunsOff ≡ methodsAt s i → refused NumberOutside ≡ classDataAt s methods i
-  unfolding classDataAt
-  class-off e = rw (← e)
+  class-refused y e = rw (← e)
 
   pub class-from : (a v p : ℕ) → m.At a v p ≡ methodsAt s i → andOn (methodsFrom a s methods p 0) (λ f. methodsFrom v s methods f 0) ≡ classDataAt s methods i
   unfolding classDataAt
@@ -80,7 +68,7 @@ unfolding MethodRead
 method-refused s methods i m y e = e methods
 
 module _ (s : List ℕ) (methods i m p j c : ℕ) (q : HeadAt s i m p j c) where
-  -- what is behind the method
+  -- what is after the method
   abbrev more : ℕ → Walk
   more n = methodsFrom n s methods p j
 
@@ -121,7 +109,7 @@ module _ (s : List ℕ) (methods i m : ℕ) (r : Method) (q : MethodRead s metho
   unfolding MethodRead
   bare-told p j e = subst (MethodRead s methods i m) e q
 
-  pub coded-told : (p j c u : ℕ) → r ≡ d.Coded p j c u → CodedAt s methods i m p j c u
+  pub coded-told : (p j c u : ℕ) → r ≡ d.Coded p j c u → CodedAt s methods i m p (record { method = j; off = c; units = u })
   unfolding MethodRead
   coded-told p j c u e = subst (MethodRead s methods i m) e q
 

@@ -5,7 +5,6 @@ use native.Mathlib.Omega.{arith}
 use mathlib.Core.Path.{_≡_, refl, sym, subst}
 use mathlib.Core.Bool.{_&&_}
 use mathlib.Core.List.{List, [], _∷_, _++_}
-use mathlib.Core.Option.{Option, none, some}
 use lib.ListN.{length, length-append}
 use lib.Dec.{ltb, eqb}
 use borrow.Author.Tests.{ltb-true}
@@ -16,9 +15,12 @@ use Rattle.leb128.specs.declared.Uleb.{Uleb}
 use Rattle.leb128.specs.declared.Uleb.the-variants as u
 use Rattle.leb128.specs.declared.Len.{Len}
 use Rattle.leb128.specs.declared.Len.the-variants as l
-use Rattle.leb128.proofs.Laws.{fast-keeps, len-in}
+use Rattle.leb128.proofs.Laws.{Reason, fast-keeps, fast-reason, len-in, len-reason}
 use Rattle.class_data.specs.Walk.{Walk, behind, andOn, skipped, twoAt, onTwo, sizesAt, onSizes, onSkipped, methodsAt, onMethods, withMethod, codeInside, codeAt, methodsFrom, classDataAt}
 use Rattle.class_data.specs.Walk.Walk.{refused, found}
+use Rattle.refusal.specs.declared.Refusal.{Refusal}
+use Rattle.class_data.specs.declared.item.Skipped.{Skipped}
+use Rattle.class_data.specs.declared.item.Skipped.the-variants as k
 use Rattle.class_data.specs.declared.item.Two.{Two}
 use Rattle.class_data.specs.declared.item.Two.the-variants as n
 use Rattle.class_data.specs.declared.item.Sizes.{Sizes}
@@ -43,45 +45,48 @@ each-append P [] ys a b = b
 each-append P (c ∷ xs) ys a b = (a .0, each-append P xs ys (a .1) b)
 
 -- ---- going by cases through the definitions
-onUlebP : {A : Type 0} (P : A → Type 0) (r : Uleb) (a : A) (g : ℕ → ℕ → A) → P a → ((v n : ℕ) → u.Number v n ≡ r → P (g v n)) → P (onUleb r a g)
-onUlebP P (u.Number v n) a g x y = y v n refl
-onUlebP P u.RunsOff a g x y = x
+onUlebP : {A : Type 0} (P : A → Type 0) (r : Uleb) (a : Refusal → A) (g : ℕ → ℕ → A) → ((y : Refusal) → u.Refused y ≡ r → P (a y))
+    → ((v n : ℕ) → u.Number v n ≡ r → P (g v n)) → P (onUleb r a g)
+onUlebP P (u.Number v n) a g x f = f v n refl
+onUlebP P (u.Refused y) a g x f = x y refl
 
-onLenP : (P : Option ℕ → Type 0) (r : Len) (a : Option ℕ) (g : ℕ → Option ℕ) → P a → ((n : ℕ) → l.Bytes n ≡ r → P (g n)) → P (onLen r a g)
-onLenP P (l.Bytes n) a g x y = y n refl
-onLenP P l.RunsOff a g x y = x
+onLenP : {A : Type 0} (P : A → Type 0) (r : Len) (a : Refusal → A) (g : ℕ → A) → ((y : Refusal) → l.Refused y ≡ r → P (a y))
+    → ((n : ℕ) → l.Bytes n ≡ r → P (g n)) → P (onLen r a g)
+onLenP P (l.Bytes n) a g x f = f n refl
+onLenP P (l.Refused y) a g x f = x y refl
 
--- ---- n numbers skipped end inside
-abbrev InsideR : List ℕ → Option ℕ → Type 0
-InsideR s none = Unit {0}
-InsideR s (some e) = e ≤ length s
+-- ---- n numbers skipped end inside; here and below, a refusal is a reader's
+abbrev InsideR : List ℕ → Skipped → Type 0
+InsideR s (k.To e) = e ≤ length s
+InsideR s (k.Refused r) = Reason r
 
 skipped-keeps : (n : ℕ) (s : List ℕ) (i : ℕ) → i ≤ length s → InsideR s (skipped n s i)
 unfolding skipped
 skipped-keeps zero s i q = q
-skipped-keeps (suc n) s i q = onLenP (InsideR s) (ulebLen s i) _ _ tt (λ m e. skipped-keeps n s (i + m) (len-in s i m e .1))
+skipped-keeps (suc n) s i q = onLenP (InsideR s) (ulebLen s i) _ _ (len-reason s i) (λ m e. skipped-keeps n s (i + m) (len-in s i m e .1))
 
 -- ---- an item's first method stands inside
 abbrev TwoR : List ℕ → Two → Type 0
 TwoR s (n.At a b p) = p ≤ length s
-TwoR s n.RunsOff = Unit {0}
+TwoR s (n.Refused r) = Reason r
 
 abbrev SizesR : List ℕ → Sizes → Type 0
 SizesR s (z.At k d v p) = p ≤ length s
-SizesR s z.RunsOff = Unit {0}
+SizesR s (z.Refused r) = Reason r
 
 abbrev MethodsR : List ℕ → Methods → Type 0
 MethodsR s (ms.At d v p) = p ≤ length s
-MethodsR s ms.RunsOff = Unit {0}
+MethodsR s (ms.Refused r) = Reason r
 
 two-keeps : (s : List ℕ) (i : ℕ) → TwoR s (twoAt s i)
 unfolding twoAt
 two-keeps s i =
-    onUlebP (TwoR s) (ulebFast s i) _ _ tt (λ a k e₁. onUlebP (TwoR s) (ulebFast s (i + k)) _ _ tt (λ b l e₂. fast-keeps _ _ _ _ e₂ .inside))
+    onUlebP (TwoR s) (ulebFast s i) _ _ (fast-reason s i) (λ a j e₁.
+    onUlebP (TwoR s) (ulebFast s (i + j)) _ _ (fast-reason s (i + j)) (λ b l e₂. fast-keeps _ _ _ _ e₂ .inside))
 
 onTwoP : (s : List ℕ) (r : Two) (f : ℕ → ℕ → ℕ → Sizes) → TwoR s r → ((a b p : ℕ) → p ≤ length s → SizesR s (f a b p)) → SizesR s (onTwo r f)
 onTwoP s (n.At a b p) f x y = y a b p x
-onTwoP s n.RunsOff f x y = tt
+onTwoP s (n.Refused r) f x y = x
 
 sizes-keeps : (s : List ℕ) (i : ℕ) → SizesR s (sizesAt s i)
 unfolding sizesAt
@@ -89,11 +94,11 @@ sizes-keeps s i = onTwoP s (twoAt s i) _ (two-keeps s i) (λ a b p _. onTwoP s (
 
 onSizesP : (s : List ℕ) (r : Sizes) (f : ℕ → ℕ → ℕ → ℕ → Methods) → SizesR s r → ((k d v p : ℕ) → p ≤ length s → MethodsR s (f k d v p)) → MethodsR s (onSizes r f)
 onSizesP s (z.At k d v p) f x y = y k d v p x
-onSizesP s z.RunsOff f x y = tt
+onSizesP s (z.Refused r) f x y = x
 
-onSkippedP : (s : List ℕ) (r : Option ℕ) (f : ℕ → Methods) → InsideR s r → ((e : ℕ) → e ≤ length s → MethodsR s (f e)) → MethodsR s (onSkipped r f)
-onSkippedP s none f x y = tt
-onSkippedP s (some e) f x y = y e x
+onSkippedP : (s : List ℕ) (r : Skipped) (f : ℕ → Methods) → InsideR s r → ((e : ℕ) → e ≤ length s → MethodsR s (f e)) → MethodsR s (onSkipped r f)
+onSkippedP s (k.To e) f x y = y e x
+onSkippedP s (k.Refused r) f x y = x
 
 methods-keeps : (s : List ℕ) (i : ℕ) → MethodsR s (methodsAt s i)
 unfolding methodsAt
@@ -101,6 +106,17 @@ methods-keeps s i = onSizesP s (sizesAt s i) _ (sizes-keeps s i) (λ k d v p x. 
 
 pub first-inside : (s : List ℕ) (i d v p : ℕ) → ms.At d v p ≡ methodsAt s i → p ≤ length s
 first-inside s i d v p e = subst (MethodsR s) (sym e) (methods-keeps s i)
+
+-- what holds of a reader's refusal and of every walk from a first method holds of the item
+pub class-any : (s : List ℕ) (methods i : ℕ) (P : Walk → Type 0) → ((r : Refusal) → Reason r → P (refused r))
+    → ((a v p : ℕ) → P (andOn (methodsFrom a s methods p 0) (λ f. methodsFrom v s methods f 0)))
+    → P (classDataAt s methods i)
+unfolding classDataAt
+class-any s methods i P x g = by-item (methodsAt s i) (methods-keeps s i)
+  where
+    by-item : (r : Methods) → MethodsR s r → P (onMethods r (λ a v p. andOn (methodsFrom a s methods p 0) (λ f. methodsFrom v s methods f 0)))
+    by-item (ms.At a v p) h = g a v p
+    by-item (ms.Refused y) h = x y h
 
 -- ---- a walk from i over bytes of the file finds at most a code for each byte
 pub record Within (s : List ℕ) (m i : ℕ) (cs : List Code) (e : ℕ) : Type 0 where
@@ -142,10 +158,10 @@ module _ (s : List ℕ) (m : ℕ) where
   unfolding methodsFrom
   methods-within zero i j q = record { each = tt; few = omega arith; inside = q }
   methods-within (suc n) i j q =
-      onUlebP (WithinR s m i) (ulebFast s i) _ _ tt (λ d a e₁.
+      onUlebP (WithinR s m i) (ulebFast s i) _ _ (λ _ _. tt) (λ d a e₁.
       cond-elim (WithinR s m i) (ltb (j + d % 4294967296) 4294967296) _ _
-      (λ _. onUlebP (WithinR s m i) (ulebFast s (i + a)) _ _ tt (λ f b e₂.
-      onUlebP (WithinR s m i) (ulebFast s (i + a + b)) _ _ tt (λ o c e₃.
+      (λ _. onUlebP (WithinR s m i) (ulebFast s (i + a)) _ _ (λ _ _. tt) (λ f b e₂.
+      onUlebP (WithinR s m i) (ulebFast s (i + a + b)) _ _ (λ _ _. tt) (λ o c e₃.
       let x = fast-keeps _ _ _ _ e₁ in
       let y = fast-keeps _ _ _ _ e₂ in
       let z = fast-keeps _ _ _ _ e₃ in
@@ -153,7 +169,7 @@ module _ (s : List ℕ) (m : ℕ) where
       (λ _. tt))
 
   item-within : (r : Methods) (f : ℕ → ℕ → ℕ → Walk) → MethodsR s r → ((d v e : ℕ) → e ≤ length s → WithinR s m e (f d v e)) → WithinR s m 0 (onMethods r f)
-  item-within ms.RunsOff f a b = tt
+  item-within (ms.Refused r) f a b = tt
   item-within (ms.At d v e) f a b = within-from 0 e (f d v e) (omega arith) (b d v e a)
 
   pub class-within : (i : ℕ) → WithinR s m 0 (classDataAt s m i)

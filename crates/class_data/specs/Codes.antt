@@ -1,4 +1,4 @@
--- The walk over all class data of a file, as document 01 says it under insn_locator.rs: which class data items are walked, by the map or
+-- The walk over all class data of a file (SPEC, Class data): which class data items are walked, by the map or
 -- by the class definitions. The walk over one of them is in Walk.
 -- Assumes nothing.
 use Prim.Native.Nat.{ℕ, zero, suc, _+_}
@@ -15,7 +15,7 @@ use Rattle.tinydex.specs.declared.DexHeader.{DexHeader}
 use Rattle.class_data.specs.Walk.{Walk, andOn, classDataAt}
 use Rattle.class_data.specs.Walk.Walk.{refused, found}
 
--- n class data items one behind another
+-- n class data items one after another
 unfoldable pub successive : ℕ → List ℕ → ℕ → ℕ → Walk
 successive zero s methods i = found [] i
 successive (suc n) s methods i = andOn (classDataAt s methods i) (λ e. successive n s methods e)

@@ -8,6 +8,7 @@ use mathlib.Core.Bool.{cond}
 use lib.ListN.{length}
 use lib.Dec.{leb}
 use Rattle.words.specs.Padded.{padded}
+use Rattle.start_words.specs.Starts.{methodsIn}
 use Rattle.refusal.specs.Refusals.{tooLarge}
 use Rattle.refusal.specs.declared.Refusal.the-variants.{FileTooLarge, LentTooShort}
 use Rattle.refusal.specs.declared.Answer.{Answer}
@@ -16,7 +17,7 @@ use Rattle.tinydex.specs.declared.DexHeader.{DexHeader}
 use Rattle.class_data.specs.Walk.{Walk}
 use Rattle.class_data.specs.Walk.Walk.{refused, found}
 use Rattle.class_data.specs.Codes.{codesOf}
-use Rattle.class_data.specs.Stored.{triplesOf, startsOf}
+use Rattle.class_data.specs.Stored.{CodeWords, triplesOf, startsOf}
 
 -- last 4 for the triples: the whole walk comes first
 abbrev pub fitting : ℕ → Walk → Walk
@@ -27,7 +28,11 @@ fitting room (found cs e) = cond (leb (3 * length cs) room) (found cs e) (refuse
 unfoldable pub codesIn : List ℕ → DexHeader → ℕ → ℕ → Walk
 codesIn s h triples starts =
     cond (tooLarge (length s)) (refused FileTooLarge)
-    (cond (leb (h .methods .size) starts) (fitting triples (codesOf s h)) (refused LentTooShort))
+    (cond (leb (h .methods .size) (methodsIn starts)) (fitting triples (codesOf s h)) (refused LentTooShort))
+
+-- the same by the lent slices
+abbrev pub codesFor : List ℕ → DexHeader → CodeWords → Walk
+codesFor s h w = codesIn s h (length (w .triples)) (length (w .starts))
 
 -- the answer counts the codes
 abbrev pub answerOf : Walk → Answer
@@ -42,8 +47,8 @@ abbrev pub startsIn : ℕ → Walk → List ℕ
 startsIn m (refused r) = []
 startsIn m (found cs e) = startsOf m cs
 
--- the answer and both lent outputs are those of the walk w; m counts the method ids
-pub record GivesCodes (m : ℕ) (w : Walk) (r : Answer) (ts ts′ zs zs′ : List ℕ) : Type 0 where
+-- the answer and both lent slices are those of the walk w; m counts the method ids
+pub record GivesCodes (m : ℕ) (w : Walk) (r : Answer) (before after : CodeWords) : Type 0 where
   pub answer : r ≡ answerOf w
-  pub triples : ts′ ≡ padded (length ts) (triplesIn w)
-  pub starts : zs′ ≡ padded (length zs) (startsIn m w)
+  pub triples : after .triples ≡ padded (length (before .triples)) (triplesIn w)
+  pub starts : after .starts ≡ padded (length (before .starts)) (startsIn m w)

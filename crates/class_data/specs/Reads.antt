@@ -7,7 +7,7 @@ use mathlib.Core.Bool.{cond}
 use mathlib.Core.List.{List, [], _∷_}
 use mathlib.Core.Option.{Option, none, some}
 use lib.ListN.{length}
-use Rattle.dalvik.specs.CodeItem.{headerSize, insns-size}
+use Rattle.dalvik.specs.CodeItem.{Code, headerSize, insns-size}
 use Rattle.class_data.specs.Walk.{withMethod, behind, codeInside, methodsFrom}
 use Rattle.class_data.specs.Walk.Walk.{refused}
 use Rattle.class_data.specs.declared.item.Offset.{Offset}
@@ -24,7 +24,7 @@ unfoldable pub place : Offset → Option ℕ
 place (o.At i) = some i
 place o.Nowhere = none
 
--- a method whose numbers were read: index j, code offset c; m is the index before it, and p the offset behind
+-- a method whose numbers were read: index j, code offset c; m is the index before it, and p the offset after
 pub record HeadAt (s : List ℕ) (i m p j c : ℕ) : Type 0 where
   pub rest : (methods n : ℕ) → withMethod s methods j c (methodsFrom n s methods p j) ≡ methodsFrom (suc n) s methods i m
   pub on : i < p
@@ -43,15 +43,15 @@ pub record BareAt (s : List ℕ) (methods i m p j : ℕ) : Type 0 where
   pub on : i < p
   pub inside : p ≤ length s
 
--- a method with the code item at c, of u units
-pub record CodedAt (s : List ℕ) (methods i m p j c u : ℕ) : Type 0 where
-  pub rest : (n : ℕ) → behind (record { method = j; off = c; units = u } ∷ []) (methodsFrom n s methods p j) ≡ methodsFrom (suc n) s methods i m
+-- a method with code
+pub record CodedAt (s : List ℕ) (methods i m p : ℕ) (code : Code) : Type 0 where
+  pub rest : (n : ℕ) → behind (code ∷ []) (methodsFrom n s methods p (code .method)) ≡ methodsFrom (suc n) s methods i m
   pub on : i < p
   pub inside : p ≤ length s
-  pub some : 0 < u
-  pub fits : c + headerSize + 2 * u ≤ length s
+  pub some : 0 < code .units
+  pub fits : code .off + headerSize + 2 * code .units ≤ length s
 
 unfoldable pub MethodRead : List ℕ → ℕ → ℕ → ℕ → Method → Type 0
 MethodRead s methods i m (d.Bare p j) = BareAt s methods i m p j
-MethodRead s methods i m (d.Coded p j c u) = CodedAt s methods i m p j c u
+MethodRead s methods i m (d.Coded p j c u) = CodedAt s methods i m p (record { method = j; off = c; units = u })
 MethodRead s methods i m (d.Refused r) = (n : ℕ) → refused r ≡ methodsFrom (suc n) s methods i m

@@ -2,8 +2,16 @@
 -- Assumes nothing.
 use Prim.Native.Nat.{ℕ, _-_, _/_}
 use mathlib.Core.List.{List, [], _∷_}
-use lib.ListN.{set, replicate}
+use Rattle.start_words.specs.Starts.{withStart, noStarts}
 use Rattle.dalvik.specs.CodeItem.{Code, start, stop}
+
+-- the two lent slices
+pub record CodeWords : Type 0 where
+  pub triples : List ℕ
+  pub starts : List ℕ
+
+abbrev pub codeWords : List ℕ → List ℕ → CodeWords
+codeWords triples starts = record { triples = triples; starts = starts }
 
 -- the buckets of 16 bytes that hold the array's first and last byte
 abbrev pub firstBucket : Code → ℕ
@@ -20,8 +28,8 @@ triplesOf (c ∷ cs) = firstBucket c ∷ lastBucket c ∷ c .method ∷ triplesO
 -- the start word of a method is that of its code found last
 abbrev pub startsFrom : List ℕ → List Code → List ℕ
 startsFrom ws [] = ws
-startsFrom ws (c ∷ cs) = startsFrom (set ws (c .method) (start c)) cs
+startsFrom ws (c ∷ cs) = startsFrom (withStart ws (c .method) (start c)) cs
 
 -- 0 for a method without code; m counts the method ids
 unfoldable pub startsOf : ℕ → List Code → List ℕ
-startsOf m cs = startsFrom (replicate m 0) cs
+startsOf m cs = startsFrom (noStarts m) cs

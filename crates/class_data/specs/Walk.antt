@@ -1,16 +1,17 @@
--- The walk over one class data item, as document 01 says it under insn_locator.rs: the codes found, or the refusal, in the order in which
+-- The walk over one class data item (SPEC, Class data): the codes found, or the refusal, in the order in which
 -- the walk reads. What is published is in dalvik's ClassData; that the walk finds it is proved with demand 3.
 -- Assumes nothing.
 use Prim.Native.Nat.{ℕ, zero, suc, _+_, _*_, _%_, _^_}
 use mathlib.Core.List.{List, [], _∷_, _++_}
 use mathlib.Core.Bool.{Bool, cond, _&&_}
-use mathlib.Core.Option.{Option, none, some}
 use lib.ListN.{length}
 use lib.Dec.{ltb, leb, eqb}
 use Rattle.dalvik.specs.CodeItem.{Code, headerSize, insns-size}
 use Rattle.leb128.specs.Leb.{ulebFast, ulebLen, onUleb, onLen}
 use Rattle.refusal.specs.declared.Refusal.{Refusal}
-use Rattle.refusal.specs.declared.Refusal.the-variants.{NumberOutside, MethodIndex, CodeOutside}
+use Rattle.refusal.specs.declared.Refusal.the-variants.{MethodIndex, CodeOutside}
+use Rattle.class_data.specs.declared.item.Skipped.{Skipped}
+use Rattle.class_data.specs.declared.item.Skipped.the-variants as k
 use Rattle.class_data.specs.declared.item.Two.{Two}
 use Rattle.class_data.specs.declared.item.Two.the-variants as n
 use Rattle.class_data.specs.declared.item.Sizes.{Sizes}
@@ -18,7 +19,7 @@ use Rattle.class_data.specs.declared.item.Sizes.the-variants as z
 use Rattle.class_data.specs.declared.item.Methods.{Methods}
 use Rattle.class_data.specs.declared.item.Methods.the-variants as m
 
--- a refusal, or the codes in the order found and the offset behind them
+-- a refusal, or the codes in the order found and the offset after them
 pub data Walk : Type 0 where
   refused : Refusal → Walk
   found : List Code → ℕ → Walk
@@ -28,55 +29,59 @@ abbrev pub behind : List Code → Walk → Walk
 behind cs (refused r) = refused r
 behind cs (found ds e) = found (cs ++ ds) e
 
--- a walk, and then another from the offset behind it
+-- a walk, and then another from the offset after it
 abbrev pub andOn : Walk → (ℕ → Walk) → Walk
 andOn (refused r) f = refused r
 andOn (found cs e) f = behind cs (f e)
 
--- the number at i: f gets its value and the offset behind it; where it runs off the file the answer is a
-abbrev pub onNumber {ℓ} : {A : Type ℓ} → List ℕ → ℕ → A → (ℕ → ℕ → A) → A
+-- the number at i: f gets its value and the offset after it, and a why the reader refuses
+abbrev pub onNumber {ℓ} : {A : Type ℓ} → List ℕ → ℕ → (Refusal → A) → (ℕ → ℕ → A) → A
 onNumber s i a f = onUleb (ulebFast s i) a (λ v n. f v (i + n))
 
 abbrev pub withNumber : List ℕ → ℕ → (ℕ → ℕ → Walk) → Walk
-withNumber s i f = onNumber s i (refused NumberOutside) f
+withNumber s i f = onNumber s i (λ r. refused r) f
 
--- the offset behind n numbers, of any length
-unfoldable pub skipped : ℕ → List ℕ → ℕ → Option ℕ
-skipped zero s i = some i
-skipped (suc n) s i = onLen (ulebLen s i) none (λ m. skipped n s (i + m))
+-- the numbers end before e
+abbrev pub skippedTo : ℕ → Skipped
+skippedTo e = k.To e
+
+-- the offset after n numbers, of any length
+unfoldable pub skipped : ℕ → List ℕ → ℕ → Skipped
+skipped zero s i = skippedTo i
+skipped (suc n) s i = onLen (ulebLen s i) (λ r. k.Refused r) (λ m. skipped n s (i + m))
 
 abbrev pub word : ℕ
 word = 2 ^ 32
 
 -- ---- what opens a class data item
--- the number at i, the number behind it, and the offset behind both
+-- the number at i, the number after it, and the offset after both
 unfoldable pub twoAt : List ℕ → ℕ → Two
-twoAt s i = onNumber s i n.RunsOff (λ a j. onNumber s j n.RunsOff (λ b k. n.At a b k))
+twoAt s i = onNumber s i (λ r. n.Refused r) (λ a j. onNumber s j (λ r. n.Refused r) (λ b e. n.At a b e))
 
 abbrev pub onTwo : Two → (ℕ → ℕ → ℕ → Sizes) → Sizes
-onTwo (n.At a b k) f = f a b k
-onTwo n.RunsOff f = z.RunsOff
+onTwo (n.At a b e) f = f a b e
+onTwo (n.Refused r) f = z.Refused r
 
--- the four sizes at i, and the offset behind them. The fields have two numbers for each pair, and the count of pairs is the low 32 bits
+-- the four sizes at i, and the offset after them. The fields have two numbers for each pair, and the count of pairs is the low 32 bits
 -- of the two sizes' sum
 unfoldable pub sizesAt : List ℕ → ℕ → Sizes
 sizesAt s i = onTwo (twoAt s i) (λ statics instances j. onTwo (twoAt s j) (λ directs virtuals k. z.At (2 * ((statics + instances) % word)) directs virtuals k))
 
 abbrev pub onSizes : Sizes → (ℕ → ℕ → ℕ → ℕ → Methods) → Methods
-onSizes (z.At n d v k) f = f n d v k
-onSizes z.RunsOff f = m.RunsOff
+onSizes (z.At n d v e) f = f n d v e
+onSizes (z.Refused r) f = m.Refused r
 
-abbrev pub onSkipped : Option ℕ → (ℕ → Methods) → Methods
-onSkipped none f = m.RunsOff
-onSkipped (some e) f = f e
+abbrev pub onSkipped : Skipped → (ℕ → Methods) → Methods
+onSkipped (k.To e) f = f e
+onSkipped (k.Refused r) f = m.Refused r
 
--- how many direct and virtual methods the class data item at i has, and the offset of the first of them, behind the fields
+-- how many direct and virtual methods the class data item at i has, and the offset of the first of them, after the fields
 unfoldable pub methodsAt : List ℕ → ℕ → Methods
 methodsAt s i = onSizes (sizesAt s i) (λ numbers directs virtuals k. onSkipped (skipped numbers s k) (λ e. m.At directs virtuals e))
 
 abbrev pub onMethods : Methods → (ℕ → ℕ → ℕ → Walk) → Walk
 onMethods (m.At d v e) f = f d v e
-onMethods m.RunsOff f = refused NumberOutside
+onMethods (m.Refused r) f = refused r
 
 -- ---- its methods
 

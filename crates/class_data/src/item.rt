@@ -2,7 +2,7 @@
 // numbers of its fields and methods, and the units of a method's code item. Nothing is stored here.
 ghost use mathlib.Core.Path.{_≡_};
 ghost use Rattle.class_data.specs.Walk.{skipped, twoAt, sizesAt, methodsAt};
-ghost use Rattle.class_data.specs.Reads.{place, HeadRead, itemAt, MethodRead};
+ghost use Rattle.class_data.specs.Reads.{HeadRead, itemAt, MethodRead};
 use leb128::Len;
 use leb128::Uleb;
 use refusal::Refusal;
@@ -14,46 +14,61 @@ pub(crate) enum Offset {
     Nowhere,
 }
 
-// The offset behind n numbers of any length.
-fn skip_numbers(buf: &[u8], pos: usize, n: u64) -> Offset
-    ensures { λ r. ⌜ place r ≡ skipped n (now (buf .entry)) pos ⌝ }
+// The offset after some numbers, or why one of them is refused.
+enum Skipped {
+    To(usize),
+    Refused(Refusal),
+}
+
+// n numbers of any length.
+fn skip_numbers(buf: &[u8], pos: usize, n: u64) -> Skipped
+    ensures { λ r. ⌜ r ≡ skipped n (now (buf .entry)) pos ⌝ }
 {
     let mut at = pos;
     let mut left = n;
     while 0 < left {
-        let Len::Bytes(m) = leb128::read_uleb128_len(buf, at) else {
-            return Offset::Nowhere;
-        };
-        at = at + m;
-        left = left - 1;
+        match leb128::read_uleb128_len(buf, at) {
+            Len::Bytes(m) => {
+                at = at + m;
+                left = left - 1;
+            }
+            Len::Refused(r) => {
+                return Skipped::Refused(r);
+            }
+        }
     }
-    Offset::At(at)
+    Skipped::To(at)
 }
 
-// Two numbers one behind another, and the offset behind them. Read here for class_sizes alone: with a second caller it would stay a call.
+// Two numbers one after another, and the offset after them. Read here for class_sizes alone: with a second caller it would stay a call.
 enum Two {
     At { first: u64, second: u64, pos: usize },
-    RunsOff,
+    Refused(Refusal),
 }
 
 fn read_two(buf: &[u8], pos: usize) -> Two
     ensures { λ r. ⌜ r ≡ twoAt (now (buf .entry)) pos ⌝ }
 {
-    let Uleb::Number { value: a, len: m } = leb128::read_uleb128_fast(buf, pos) else {
-        return Two::RunsOff;
-    };
-    let p = pos + m;
-    let Uleb::Number { value: b, len: n } = leb128::read_uleb128_fast(buf, p) else {
-        return Two::RunsOff;
-    };
-    Two::At {
-        first: a,
-        second: b,
-        pos: p + n,
+    match leb128::read_uleb128_fast(buf, pos) {
+        Uleb::Refused(r) => Two::Refused(r),
+        Uleb::Number { value: a, len: m } => {
+            let p = pos + m;
+            match leb128::read_uleb128_fast(buf, p) {
+                Uleb::Refused(r) => Two::Refused(r),
+                Uleb::Number { value: b, len: n } => {
+                    let q = p + n;
+                    Two::At {
+                        first: a,
+                        second: b,
+                        pos: q,
+                    }
+                }
+            }
+        }
     }
 }
 
-// The sizes that open a class data item: how many numbers its fields have, its direct and its virtual methods; and the offset behind.
+// The sizes that open a class data item: how many numbers its fields have, its direct and its virtual methods; and the offset after them.
 enum Sizes {
     At {
         fields: u64,
@@ -61,73 +76,73 @@ enum Sizes {
         virt: u64,
         pos: usize,
     },
-    RunsOff,
+    Refused(Refusal),
 }
 
 fn class_sizes(buf: &[u8], pos: usize) -> Sizes
     ensures { λ r. ⌜ r ≡ sizesAt (now (buf .entry)) pos ⌝ }
 {
-    let Uleb::Number {
-        value: statics,
-        len: a,
-    } = leb128::read_uleb128_fast(buf, pos)
-    else {
-        return Sizes::RunsOff;
-    };
-    let p = pos + a;
-    let Uleb::Number {
-        value: instances,
-        len: b,
-    } = leb128::read_uleb128_fast(buf, p)
-    else {
-        return Sizes::RunsOff;
-    };
-    let Two::At {
-        first: direct,
-        second: virt,
-        pos: q,
-    } = read_two(buf, p + b)
-    else {
-        return Sizes::RunsOff;
-    };
-    Sizes::At {
-        fields: 2 * ((statics + instances) % 4294967296),
-        direct: direct,
-        virt: virt,
-        pos: q,
+    match leb128::read_uleb128_fast(buf, pos) {
+        Uleb::Refused(r) => Sizes::Refused(r),
+        Uleb::Number {
+            value: statics,
+            len: a,
+        } => {
+            let p = pos + a;
+            match leb128::read_uleb128_fast(buf, p) {
+                Uleb::Refused(r) => Sizes::Refused(r),
+                Uleb::Number {
+                    value: instances,
+                    len: b,
+                } => {
+                    let fields = 2 * ((statics + instances) % 4294967296);
+                    match read_two(buf, p + b) {
+                        Two::Refused(r) => Sizes::Refused(r),
+                        Two::At {
+                            first: direct,
+                            second: virt,
+                            pos: q,
+                        } => Sizes::At {
+                            fields: fields,
+                            direct: direct,
+                            virt: virt,
+                            pos: q,
+                        },
+                    }
+                }
+            }
+        }
     }
 }
 
 // How many direct and virtual methods a class data item has, and the offset of the first: the sizes read, the fields skipped.
 pub(crate) enum Methods {
     At { direct: u64, virt: u64, pos: usize },
-    RunsOff,
+    Refused(Refusal),
 }
 
 pub(crate) fn class_methods(buf: &[u8], pos: usize) -> Methods
     ensures { λ r. ⌜ r ≡ methodsAt (now (buf .entry)) pos ⌝ }
 {
-    let Sizes::At {
-        fields,
-        direct,
-        virt,
-        pos: p,
-    } = class_sizes(buf, pos)
-    else {
-        return Methods::RunsOff;
-    };
-    let Offset::At(q) = skip_numbers(buf, p, fields) else {
-        return Methods::RunsOff;
-    };
-    Methods::At {
-        direct: direct,
-        virt: virt,
-        pos: q,
+    match class_sizes(buf, pos) {
+        Sizes::Refused(r) => Methods::Refused(r),
+        Sizes::At {
+            fields,
+            direct,
+            virt,
+            pos: p,
+        } => match skip_numbers(buf, p, fields) {
+            Skipped::Refused(r) => Methods::Refused(r),
+            Skipped::To(q) => Methods::At {
+                direct: direct,
+                virt: virt,
+                pos: q,
+            },
+        },
     }
 }
 
-// The three numbers of a method: its index, its code offset, and the offset behind them. Read one by one: see
-// read_two.
+// The three numbers of a method: its index, its code offset, and the offset after them. Read one by one: see read_two.
 enum Head {
     At { pos: usize, idx: u32, code: u32 },
     Refused(Refusal),
@@ -136,29 +151,36 @@ enum Head {
 fn method_head(buf: &[u8], pos: usize, idx: u32) -> Head
     ensures { λ r. ⌜ HeadRead (now (buf .entry)) pos idx r ⌝ }
 {
-    let Uleb::Number {
-        value: diff,
-        len: n,
-    } = leb128::read_uleb128_fast(buf, pos)
-    else {
-        return Head::Refused(Refusal::NumberOutside);
-    };
-    let sum = idx as u64 + diff % 4294967296;
-    if 4294967296 <= sum {
-        return Head::Refused(Refusal::MethodIndex);
-    }
-    let p = pos + n;
-    let Uleb::Number { value: _, len: m } = leb128::read_uleb128_fast(buf, p) else {
-        return Head::Refused(Refusal::NumberOutside);
-    };
-    let q = p + m;
-    let Uleb::Number { value: off, len: k } = leb128::read_uleb128_fast(buf, q) else {
-        return Head::Refused(Refusal::NumberOutside);
-    };
-    Head::At {
-        pos: q + k,
-        idx: sum as u32,
-        code: (off % 4294967296) as u32,
+    match leb128::read_uleb128_fast(buf, pos) {
+        Uleb::Refused(r) => Head::Refused(r),
+        Uleb::Number {
+            value: diff,
+            len: n,
+        } => {
+            let sum = idx as u64 + diff % 4294967296;
+            if 4294967296 <= sum {
+                return Head::Refused(Refusal::MethodIndex);
+            }
+            let p = pos + n;
+            match leb128::read_uleb128_fast(buf, p) {
+                Uleb::Refused(r) => Head::Refused(r),
+                Uleb::Number { value: _, len: m } => {
+                    let q = p + m;
+                    match leb128::read_uleb128_fast(buf, q) {
+                        Uleb::Refused(r) => Head::Refused(r),
+                        Uleb::Number { value: off, len: k } => {
+                            let next = q + k;
+                            let code = (off % 4294967296) as u32;
+                            Head::At {
+                                pos: next,
+                                idx: sum as u32,
+                                code: code,
+                            }
+                        }
+                    }
+                }
+            }
+        }
     }
 }
 
@@ -184,7 +206,7 @@ fn code_item(buf: &[u8], code: u32) -> Item
     Item::Units(units)
 }
 
-// A method, and its code where it has one: the offset behind it, its index, the code item and its units.
+// A method, and its code where it has one: the offset after it, its index, the code item and its units.
 pub(crate) enum Method {
     Bare {
         pos: usize,

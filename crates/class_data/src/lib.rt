@@ -10,8 +10,9 @@ ghost use Rattle.dalvik.specs.Numbers.{le32};
 ghost use Rattle.refusal.specs.Refusals.{largestFile};
 ghost use Rattle.class_data.specs.Reads.{place};
 ghost use Rattle.class_data.specs.Codes.{successive, defined, mapEntry, codesOf};
-ghost use Rattle.class_data.specs.Found.{codesIn, GivesCodes};
-ghost use Rattle.class_data.specs.Steps.{stored, seen, EntryPre, DefPre, OneDefined, FitCodes};
+ghost use Rattle.class_data.specs.Stored.{codeWords};
+ghost use Rattle.class_data.specs.Found.{codesFor, GivesCodes};
+ghost use Rattle.class_data.specs.Steps.{kept, stored, seen, EntryPre, DefPre, OneDefined, FitCodes};
 use item::Offset;
 use parse::Walked;
 use refusal::Answer;
@@ -60,7 +61,7 @@ fn map_entry(buf: &[u8], mapoff: u32) -> Offset
     Offset::Nowhere
 }
 
-// The class data items that a map entry counts, one behind another.
+// The class data items that a map entry counts, one after another.
 fn build_map_bymap(
     buf: &[u8],
     methods: u32,
@@ -69,7 +70,11 @@ fn build_map_bymap(
     starts: &mut [u32],
 ) -> Walked
     requires { ⌜ EntryPre (now buf) entry ⌝ }
-    ensures { λ r. ⌜ seen r (now (triples .exit)) (now (starts .exit)) ≡ stored 0 (now (triples .entry)) (now (starts .entry)) (successive (le32 (now (buf .entry)) (entry + 4)) (now (buf .entry)) methods (le32 (now (buf .entry)) (entry + 8))) ⌝ }
+    ensures { λ r.
+        let before = codeWords (now (triples .entry)) (now (starts .entry)) in
+        let after = codeWords (now (triples .exit)) (now (starts .exit)) in
+        let file = now (buf .entry) in
+        ⌜ seen r after ≡ stored (kept 0 before) (successive (le32 file (entry + 4)) file methods (le32 file (entry + 8))) ⌝ }
 {
     let size = word_inside(buf, entry + 4);
     let off = word_inside(buf, entry + 8);
@@ -104,7 +109,10 @@ fn class_def(
     starts: &mut [u32],
 ) -> Walked
     requires { ⌜ DefPre (now buf) at count ⌝ }
-    ensures { λ r. ⌜ OneDefined (now (buf .entry)) methods at count (now (triples .entry)) (now (starts .entry)) r (now (triples .exit)) (now (starts .exit)) ⌝ }
+    ensures { λ r.
+        let before = codeWords (now (triples .entry)) (now (starts .entry)) in
+        let after = codeWords (now (triples .exit)) (now (starts .exit)) in
+        ⌜ OneDefined (now (buf .entry)) methods at (kept count before) r after ⌝ }
 {
     let Read32::Value(off) = structs::read_u32(buf, at + 24) else {
         return Walked::Refused(Refusal::TableOutside);
@@ -127,7 +135,10 @@ fn build_map_bydef(
     starts: &mut [u32],
 ) -> Walked
     requires { ⌜ length (now buf) ≤ largestFile ⌝ }
-    ensures { λ r. ⌜ seen r (now (triples .exit)) (now (starts .exit)) ≡ stored 0 (now (triples .entry)) (now (starts .entry)) (defined (classes .size) (now (buf .entry)) methods (classes .off)) ⌝ }
+    ensures { λ r.
+        let before = codeWords (now (triples .entry)) (now (starts .entry)) in
+        let after = codeWords (now (triples .exit)) (now (starts .exit)) in
+        ⌜ seen r after ≡ stored (kept 0 before) (defined (classes .size) (now (buf .entry)) methods (classes .off)) ⌝ }
 {
     let mut at = classes.off as usize;
     let mut left = classes.size;
@@ -156,7 +167,10 @@ fn build_map_bydef(
 // By the map alone where it has an entry of class data, else by the class definitions.
 fn walk(buf: &[u8], header: DexHeader, triples: &mut [u32], starts: &mut [u32]) -> Walked
     requires { ⌜ length (now buf) ≤ largestFile ⌝ }
-    ensures { λ r. ⌜ seen r (now (triples .exit)) (now (starts .exit)) ≡ stored 0 (now (triples .entry)) (now (starts .entry)) (codesOf (now (buf .entry)) header) ⌝ }
+    ensures { λ r.
+        let before = codeWords (now (triples .entry)) (now (starts .entry)) in
+        let after = codeWords (now (triples .exit)) (now (starts .exit)) in
+        ⌜ seen r after ≡ stored (kept 0 before) (codesOf (now (buf .entry)) header) ⌝ }
 {
     let methods = header.methods.size;
     match map_entry(buf, header.mapoff) {
@@ -168,12 +182,15 @@ fn walk(buf: &[u8], header: DexHeader, triples: &mut [u32], starts: &mut [u32]) 
 // The walk into cleared words, where the file is not too large and the words hold what is found. A walk whose triples do not fit goes
 // on, so that what it meets is refused first. A refusal leaves any words.
 fn walk_fitting(buf: &[u8], header: DexHeader, triples: &mut [u32], starts: &mut [u32]) -> Answer
-    ensures { λ r. ⌜ FitCodes (header .methods .size) (codesIn (now (buf .entry)) header (length (now (triples .entry))) (length (now (starts .entry)))) r (now (triples .entry)) (now (triples .exit)) (now (starts .entry)) (now (starts .exit)) ⌝ }
+    ensures { λ r.
+        let before = codeWords (now (triples .entry)) (now (starts .entry)) in
+        let after = codeWords (now (triples .exit)) (now (starts .exit)) in
+        ⌜ FitCodes (header .methods .size) (codesFor (now (buf .entry)) header before) r before after ⌝ }
 {
     if refusal::too_large(buf.len()) {
         return Answer::Refused(Refusal::FileTooLarge);
     }
-    if starts.len() < header.methods.size as usize {
+    if start_words::count(starts) < header.methods.size as usize {
         return Answer::Refused(Refusal::LentTooShort);
     }
     words::clear(triples);
@@ -192,7 +209,10 @@ fn walk_fitting(buf: &[u8], header: DexHeader, triples: &mut [u32], starts: &mut
 // The codes of a file: three words for each in the order found (first bucket, last bucket, method), and each method's start word. The
 // answer counts the codes; a refusal leaves cleared words.
 pub fn codes(buf: &[u8], header: DexHeader, triples: &mut [u32], starts: &mut [u32]) -> Answer
-    ensures { λ r. ⌜ GivesCodes (header .methods .size) (codesIn (now (buf .entry)) header (length (now (triples .entry))) (length (now (starts .entry)))) r (now (triples .entry)) (now (triples .exit)) (now (starts .entry)) (now (starts .exit)) ⌝ }
+    ensures gives { λ r.
+        let before = codeWords (now (triples .entry)) (now (starts .entry)) in
+        let after = codeWords (now (triples .exit)) (now (starts .exit)) in
+        ⌜ GivesCodes (header .methods .size) (codesFor (now (buf .entry)) header before) r before after ⌝ }
 {
     match walk_fitting(buf, header, triples, starts) {
         Answer::Done(count) => Answer::Done(count),

@@ -4,13 +4,14 @@ ghost use Prim.Native.Nat.{_+_, _<_, _^_};
 ghost use mathlib.Core.List.{[], _∷_};
 ghost use lib.Seq.{sets};
 ghost use Rattle.class_data.specs.Walk.{methodsFrom, classDataAt};
-ghost use Rattle.class_data.specs.Steps.{stored, seen, StorePre, StoredCode, StepPre, Onward, MethodsPre, ItemPre};
+ghost use Rattle.class_data.specs.Stored.{codeWords};
+ghost use Rattle.class_data.specs.Steps.{kept, stored, seen, StorePre, withCode, StepPre, Onward, MethodsPre, ItemPre};
 use super::item;
 use super::item::Method;
 use super::item::Methods;
 use refusal::Refusal;
 
-// Three words one behind another, each where it fits.
+// Three words one after another, each where it fits.
 fn put_three(triples: &mut [u32], at: usize, first: u32, last: u32, method: u32)
     requires { ⌜ at + 2 < 2 ^ 64 ⌝ }
     ensures { λ _. ⌜ now (triples .exit) ≡ sets (now (triples .entry)) at (first ∷ last ∷ method ∷ []) ⌝ }
@@ -23,7 +24,10 @@ fn put_three(triples: &mut [u32], at: usize, first: u32, last: u32, method: u32)
 // Keeps code number k: its three words, where they fit, and the method's start word.
 fn store(triples: &mut [u32], starts: &mut [u32], k: usize, idx: u32, code: u32, units: u32)
     requires { ⌜ StorePre k code units ⌝ }
-    ensures { λ _. ⌜ StoredCode k idx code units (now (triples .entry)) (now (triples .exit)) (now (starts .entry)) (now (starts .exit)) ⌝ }
+    ensures { λ _.
+        let before = codeWords (now (triples .entry)) (now (starts .entry)) in
+        let after = codeWords (now (triples .exit)) (now (starts .exit)) in
+        ⌜ after ≡ withCode (kept k before) idx code units ⌝ }
 {
     let first = code + 16;
     put_three(
@@ -33,7 +37,7 @@ fn store(triples: &mut [u32], starts: &mut [u32], k: usize, idx: u32, code: u32,
         (first + 2 * units - 1) / 16,
         idx,
     );
-    words::put(starts, idx as usize, first);
+    start_words::set_start(starts, idx as usize, first);
 }
 
 // Where a walk over methods stands: the next offset, the index before it, and how many codes were found.
@@ -51,7 +55,10 @@ enum Step {
 // One method.
 fn encoded_method(buf: &[u8], methods: u32, w: At, triples: &mut [u32], starts: &mut [u32]) -> Step
     requires { ⌜ StepPre (now buf) w ⌝ }
-    ensures { λ r. ⌜ Onward (now (buf .entry)) methods w (now (triples .entry)) (now (starts .entry)) r (now (triples .exit)) (now (starts .exit)) ⌝ }
+    ensures { λ r.
+        let before = codeWords (now (triples .entry)) (now (starts .entry)) in
+        let after = codeWords (now (triples .exit)) (now (starts .exit)) in
+        ⌜ Onward (now (buf .entry)) methods w r before after ⌝ }
 {
     match item::method_code(buf, methods, w.pos, w.idx) {
         Method::Refused(r) => Step::Refused(r),
@@ -76,13 +83,13 @@ fn encoded_method(buf: &[u8], methods: u32, w: At, triples: &mut [u32], starts: 
     }
 }
 
-// The end of a walk: the offset behind it, and how many codes were found.
+// The end of a walk: the offset after it, and how many codes were found.
 pub(crate) enum Walked {
     Found { next: usize, count: usize },
     Refused(Refusal),
 }
 
-// n methods one behind another, with count codes found before them.
+// n methods one after another, with count codes found before them.
 fn encoded_methods(
     buf: &[u8],
     methods: u32,
@@ -93,7 +100,10 @@ fn encoded_methods(
     starts: &mut [u32],
 ) -> Walked
     requires { ⌜ MethodsPre (now buf) pos count ⌝ }
-    ensures { λ r. ⌜ seen r (now (triples .exit)) (now (starts .exit)) ≡ stored count (now (triples .entry)) (now (starts .entry)) (methodsFrom n (now (buf .entry)) methods pos 0) ⌝ }
+    ensures { λ r.
+        let before = codeWords (now (triples .entry)) (now (starts .entry)) in
+        let after = codeWords (now (triples .exit)) (now (starts .exit)) in
+        ⌜ seen r after ≡ stored (kept count before) (methodsFrom n (now (buf .entry)) methods pos 0) ⌝ }
 {
     let mut at = At {
         pos: pos,
@@ -128,20 +138,22 @@ pub(crate) fn class_data_parse(
     starts: &mut [u32],
 ) -> Walked
     requires { ⌜ ItemPre (now buf) count ⌝ }
-    ensures { λ r. ⌜ seen r (now (triples .exit)) (now (starts .exit)) ≡ stored count (now (triples .entry)) (now (starts .entry)) (classDataAt (now (buf .entry)) methods pos) ⌝ }
+    ensures { λ r.
+        let before = codeWords (now (triples .entry)) (now (starts .entry)) in
+        let after = codeWords (now (triples .exit)) (now (starts .exit)) in
+        ⌜ seen r after ≡ stored (kept count before) (classDataAt (now (buf .entry)) methods pos) ⌝ }
 {
-    let Methods::At {
-        direct,
-        virt,
-        pos: p,
-    } = item::class_methods(buf, pos)
-    else {
-        return Walked::Refused(Refusal::NumberOutside);
-    };
-    match encoded_methods(buf, methods, direct, p, count, triples, starts) {
-        Walked::Refused(r) => Walked::Refused(r),
-        Walked::Found { next, count: found } => {
-            encoded_methods(buf, methods, virt, next, found, triples, starts)
-        }
+    match item::class_methods(buf, pos) {
+        Methods::Refused(r) => Walked::Refused(r),
+        Methods::At {
+            direct,
+            virt,
+            pos: p,
+        } => match encoded_methods(buf, methods, direct, p, count, triples, starts) {
+            Walked::Refused(r) => Walked::Refused(r),
+            Walked::Found { next, count: found } => {
+                encoded_methods(buf, methods, virt, next, found, triples, starts)
+            }
+        },
     }
 }

@@ -1,3 +1,3 @@
-pub mod Wanted
-pub mod Hits
+pub mod Sets
+pub mod Starts
 pub mod Whole

@@ -1,24 +1,28 @@
--- What a start's answer stands for, and the promise of the scan.
+-- The promise of the scan: answer and lent words are the outcome's (Scan.antt).
 -- Assumes nothing.
 use Prim.Native.Nat.{ℕ}
 use mathlib.Core.Path.{_≡_}
-use mathlib.Core.Option.{Option, none, some}
 use mathlib.Core.List.{List}
 use lib.ListN.{length}
 use Rattle.words.specs.Padded.{padded}
 use Rattle.refusal.specs.Refusals.{answerNumber, answerCount}
 use Rattle.refusal.specs.declared.Answer.{Answer}
-use Rattle.code_item_scan.specs.declared.Hit.{Hit}
-use Rattle.code_item_scan.specs.declared.Hit.the-variants.{Mark, Nothing}
 use Rattle.code_item_scan.specs.Scan as S
 
-abbrev pub marked : Hit → Option ℕ
-marked (Mark x) = some x
-marked Nothing = none
+-- the words lent for offsets and for indices
+pub record HitWords : Type 0 where
+  pub offs : List ℕ
+  pub marks : List ℕ
 
--- an answer and both lent slices are the outcome's: the hits' offsets and the indices beside them, and zeros behind
-pub record Gives (o : S.Scan) (r : Answer) (offs₀ marks₀ offs₁ marks₁ : List ℕ) : Type 0 where
+abbrev pub hitWords : List ℕ → List ℕ → HitWords
+hitWords offs marks = record { offs = offs; marks = marks }
+
+abbrev pub hitRoomOf : HitWords → S.HitRoom
+hitRoomOf w = S.hitRoom (length (w .offs)) (length (w .marks))
+
+-- an answer and the lent words are the outcome's: the hits' offsets and the indices beside them, and zeros after them
+pub record Gives (o : S.Scan) (r : Answer) (before after : HitWords) : Type 0 where
   pub number : answerNumber r ≡ o .number
   pub count : answerCount r ≡ length (o .hits)
-  pub starts : offs₁ ≡ padded (length offs₀) (S.offs (o .hits))
-  pub indices : marks₁ ≡ padded (length marks₀) (S.marks (o .hits))
+  pub starts : after .offs ≡ padded (length (before .offs)) (S.offs (o .hits))
+  pub indices : after .marks ≡ padded (length (before .marks)) (S.marks (o .hits))

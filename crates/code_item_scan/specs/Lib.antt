@@ -1,3 +1,4 @@
-pub mod Scan
-pub mod Steps
 pub mod Answers
+pub mod Scan
+pub mod Next
+pub mod Steps

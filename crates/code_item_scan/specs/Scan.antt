@@ -1,5 +1,5 @@
--- The scan of a region, as document 01 says it under code_item_scan.rs: the places that look like an instruction of the kind asked for
--- with a wanted index. Kinds and widths are index_width's. What an instruction is and what it names is dalvik's; that none is lost is demand 3.
+-- The scan of a region (SPEC, Scan): the places that look like an instruction of the kind asked for
+-- with a wanted index. Kinds and widths are kinds's. What an instruction is and what it names is dalvik's; that none is lost is demand 3.
 -- Assumes nothing.
 use Prim.Native.Nat.{ℕ, zero, suc, _+_, _-_, _%_}
 use mathlib.Core.List.{List, [], _∷_, map}
@@ -11,8 +11,8 @@ use Rattle.dalvik.specs.Numbers.{byte, le16, le32}
 use Rattle.dalvik.specs.Instructions.{Kind}
 use Rattle.dalvik.specs.Instructions.Kind.{strings, types, fields, methods}
 use Rattle.refusal.specs.Refusals.{tooLarge}
-use Rattle.index_width.specs.Width.{widthOf}
-use Rattle.index_width.specs.Kinds.{kindOf}
+use Rattle.kinds.specs.Width.{widthOf}
+use Rattle.kinds.specs.Kinds.{kindOf}
 
 -- the index of the given width at i
 unfoldable pub indexAt : List ℕ → ℕ → ℕ → ℕ
@@ -30,28 +30,45 @@ abbrev pub isIn : ℕ → List ℕ → Bool
 isIn x [] = false
 isIn x (y ∷ ys) = eqb x y || isIn x ys
 
--- the start p is a hit: tried, the opcode of the kind, the index inside the region and wanted
-abbrev pub isHit : List ℕ → Kind → List ℕ → ℕ → ℕ → ℕ → Bool
-isHit s kind wanted from to p =
-    isTried kind (p - from) && ltb 0 (widthOf kind (byte s p)) && leb (p + 2 + widthOf kind (byte s p)) to
-    && isIn (indexAt s (p + 2) (widthOf kind (byte s p))) wanted
-
 -- a hit's offset, and the index that stands there
 pub record Hit : Type 0 where
   pub off : ℕ
   pub mark : ℕ
 
+-- what is looked for: a kind, the indices that are wanted, and the region
+pub record Sought : Type 0 where
+  pub kind : Kind
+  pub wants : ℕ → Bool
+  pub from : ℕ
+  pub to : ℕ
+
+abbrev pub sought : Kind → (ℕ → Bool) → ℕ → ℕ → Sought
+sought kind wants from to = record { kind = kind; wants = wants; from = from; to = to }
+
+abbrev pub indexBy : List ℕ → Kind → ℕ → ℕ
+indexBy s kind p = indexAt s (p + 2) (widthOf kind (byte s p))
+
+-- the start p is a hit: tried, the opcode of the kind, the index inside the region and wanted
+abbrev pub isHit : List ℕ → Sought → ℕ → Bool
+isHit s Q p =
+    isTried (Q .kind) (p - Q .from) && ltb 0 (widthOf (Q .kind) (byte s p)) && leb (p + 2 + widthOf (Q .kind) (byte s p)) (Q .to)
+    && Q .wants (indexBy s (Q .kind) p)
+
 abbrev pub hitAt : List ℕ → Kind → ℕ → Hit
-hitAt s kind p = record { off = p; mark = indexAt s (p + 2) (widthOf kind (byte s p)) }
+hitAt s kind p = record { off = p; mark = indexBy s kind p }
 
 -- the hits among n starts from p on, rising
-unfoldable pub hitsIn : ℕ → List ℕ → Kind → List ℕ → ℕ → ℕ → ℕ → List Hit
-hitsIn zero s kind wanted from to p = []
-hitsIn (suc n) s kind wanted from to p =
-    cond (isHit s kind wanted from to p) (hitAt s kind p ∷ hitsIn n s kind wanted from to (suc p)) (hitsIn n s kind wanted from to (suc p))
+unfoldable pub hitsIn : ℕ → List ℕ → Sought → ℕ → List Hit
+hitsIn zero s Q p = []
+hitsIn (suc n) s Q p = cond (isHit s Q p) (hitAt s (Q .kind) p ∷ hitsIn n s Q (suc p)) (hitsIn n s Q (suc p))
 
-unfoldable pub hitsOf : List ℕ → Kind → List ℕ → ℕ → ℕ → List Hit
-hitsOf s kind wanted from to = hitsIn (to - from) s kind wanted from to from
+-- the hits of the region
+unfoldable pub hitsBy : List ℕ → Sought → List Hit
+hitsBy s Q = hitsIn (Q .to - Q .from) s Q (Q .from)
+
+-- the same for wanted words, in any order
+abbrev pub hitsOf : List ℕ → Kind → List ℕ → ℕ → ℕ → List Hit
+hitsOf s kind wanted from to = hitsBy s (sought kind (λ x. isIn x wanted) from to)
 
 abbrev pub offs : List Hit → List ℕ
 offs = map (λ (h : Hit). h .off)
@@ -59,7 +76,7 @@ offs = map (λ (h : Hit). h .off)
 abbrev pub marks : List Hit → List ℕ
 marks = map (λ (h : Hit). h .mark)
 
--- the outcome: document 01's number, 0 for success, and the hits; a refusal has none. Both lent slices must hold all hits
+-- the outcome: the refusal's number, 0 for success, and the hits; a refusal has none. Both lent slices must hold all hits
 pub record Scan : Type 0 where
   pub number : ℕ
   pub hits : List Hit
@@ -67,15 +84,32 @@ pub record Scan : Type 0 where
 abbrev pub noScan : ℕ → Scan
 noScan n = record { number = n; hits = [] }
 
-abbrev pub scanned : ℕ → ℕ → List Hit → Scan
-scanned roomOffs roomMarks hits = cond (leb (length hits) roomOffs && leb (length hits) roomMarks) (record { number = 0; hits = hits }) (noScan 4)
+-- what is asked of a scan: the kind's number, the wanted words, and the region
+pub record Asked : Type 0 where
+  pub kind : ℕ
+  pub wanted : List ℕ
+  pub from : ℕ
+  pub to : ℕ
 
-abbrev pub scannedAs : List ℕ → List ℕ → ℕ → ℕ → ℕ → ℕ → Option Kind → Scan
-scannedAs s wanted from to roomOffs roomMarks none = noScan 2
-scannedAs s wanted from to roomOffs roomMarks (some kind) =
-    cond (leb from to && leb to (length s)) (scanned roomOffs roomMarks (hitsOf s kind wanted from to)) (noScan 12)
+abbrev pub asked : ℕ → List ℕ → ℕ → ℕ → Asked
+asked kind wanted from to = record { kind = kind; wanted = wanted; from = from; to = to }
+
+-- how many words are lent for offsets and for indices
+pub record HitRoom : Type 0 where
+  pub offs : ℕ
+  pub marks : ℕ
+
+abbrev pub hitRoom : ℕ → ℕ → HitRoom
+hitRoom offs marks = record { offs = offs; marks = marks }
+
+abbrev pub scanned : HitRoom → List Hit → Scan
+scanned R hits = cond (leb (length hits) (R .offs) && leb (length hits) (R .marks)) (record { number = 0; hits = hits }) (noScan 4)
+
+abbrev pub scannedAs : List ℕ → Asked → HitRoom → Option Kind → Scan
+scannedAs s A R none = noScan 2
+scannedAs s A R (some kind) =
+    cond (leb (A .from) (A .to) && leb (A .to) (length s)) (scanned R (hitsOf s kind (A .wanted) (A .from) (A .to))) (noScan 12)
 
 -- 1, 2, 12, 4
-unfoldable pub scanOut : List ℕ → ℕ → List ℕ → ℕ → ℕ → ℕ → ℕ → Scan
-scanOut s kind wanted from to roomOffs roomMarks =
-    cond (tooLarge (length s)) (noScan 1) (scannedAs s wanted from to roomOffs roomMarks (kindOf kind))
+unfoldable pub scanOut : List ℕ → Asked → HitRoom → Scan
+scanOut s A R = cond (tooLarge (length s)) (noScan 1) (scannedAs s A R (kindOf (A .kind)))

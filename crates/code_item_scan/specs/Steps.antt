@@ -1,43 +1,61 @@
--- What the inner steps of the scan promise each other; document 01's scan itself is Scan.antt.
+-- What the inner steps of the scan promise each other; the scan itself is Scan.antt.
 -- Assumes nothing.
-use Prim.Native.Nat.{ℕ, _+_, _-_, _*_, _%_, _<_, _≤_}
+use Prim.Native.Nat.{ℕ, _+_, _*_, _<_, _≤_}
 use mathlib.Core.Path.{_≡_}
 use mathlib.Core.Bool.{Bool, true, false, cond, _&&_}
 use mathlib.Core.Option.{Option, none, some}
 use mathlib.Core.List.{List}
-use lib.ListN.{length, getD, set}
+use lib.ListN.{length, getD}
 use lib.Seq.{sets}
 use lib.Dec.{ltb, leb}
-use Rattle.dalvik.specs.Numbers.{byte, le16}
-use Rattle.dalvik.specs.Instructions.{Kind}
+use Rattle.words.specs.Padded.{zeros}
+use Rattle.dalvik.specs.Numbers.{byte}
+use Rattle.dalvik.specs.Instructions as dalvik
 use Rattle.dalvik.specs.Instructions.Kind.{strings}
-use Rattle.refusal.specs.Refusals.{largestFile}
-use Rattle.index_width.specs.Width.{widthOf}
-use Rattle.index_width.specs.Kinds.{isStrings}
+use Rattle.refusal.specs.Refusals.{largestFile, tooLarge}
+use Rattle.refusal.specs.declared.Answer.{Answer}
+use Rattle.refusal.specs.declared.Answer.the-variants.{Done, Refused}
+use Rattle.refusal.specs.declared.Refusal.the-variants.{FileTooLarge, UnknownKind, RegionOutside, LentTooShort}
+use Rattle.kinds.specs.declared.Kind.{Kind}
+use Rattle.kinds.specs.Width.{widthOf}
+use Rattle.kinds.specs.Kinds.{isStrings, kindOf, meant}
 use Rattle.index_set.specs.Bits.{isHeld}
-use Rattle.code_item_scan.specs.Scan.{Hit, indexAt, isIn, hitsIn, offs, marks}
+use Rattle.code_item_scan.specs.Scan as S
+use Rattle.code_item_scan.specs.Scan.{Sought, sought, indexAt, isIn, hitsBy}
+use Rattle.code_item_scan.specs.Next.{tabled, onFrom, Finds}
+use Rattle.code_item_scan.specs.Answers.{HitWords}
+use Rattle.code_item_scan.specs.declared.Found.{Found}
+use Rattle.code_item_scan.specs.declared.hits.Hit.{Hit}
+use Rattle.code_item_scan.specs.declared.hits.Hit.the-variants.{Mark, Nothing}
+use Rattle.code_item_scan.specs.declared.refusals.Admission.{Admission}
+use Rattle.code_item_scan.specs.declared.refusals.Admission.the-variants.{Scan, Refuse}
 
--- r is the number of two bytes at i
-pub record Read16 (s : List ℕ) (i r : ℕ) : Type 0 where
-  pub is : r ≡ le16 s i
-  pub small : r < 65536
+-- ---- refusals
 
--- a region inside a file that is not too large
-pub record Region (s : List ℕ) (from to : ℕ) : Type 0 where
-  pub forward : from ≤ to
-  pub inside : to ≤ length s
-  pub small : length s ≤ largestFile
+-- the first that holds of 1, 2 and 12, for a region of a file of len bytes; else the scan, for the kind asked for
+pub data Admitted (len from to kind : ℕ) (r : Admission) : Type 0 where
+  large : r ≡ Refuse FileTooLarge → tooLarge len ≡ true → Admitted len from to kind r
+  unknown : r ≡ Refuse UnknownKind → tooLarge len ≡ false → kindOf kind ≡ none → Admitted len from to kind r
+  backward : (k : Kind) → r ≡ Refuse RegionOutside → tooLarge len ≡ false → kindOf kind ≡ some (meant k) → to < from → Admitted len from to kind r
+  past-end : (k : Kind) → r ≡ Refuse RegionOutside → tooLarge len ≡ false → kindOf kind ≡ some (meant k) → from ≤ to → len < to
+      → Admitted len from to kind r
+  scan : (k : Kind) → r ≡ Scan k → tooLarge len ≡ false → kindOf kind ≡ some (meant k) → from ≤ to → to ≤ len → Admitted len from to kind r
 
--- the wanted index that the bytes at p name, whether p is tried or not
-abbrev pub namedBy : List ℕ → List ℕ → ℕ → ℕ → ℕ → Option ℕ
-namedBy s wanted to p w = cond (ltb 0 w && leb (p + 2 + w) to && isIn (indexAt s (p + 2) w) wanted) (some (indexAt s (p + 2) w)) none
+-- both lent slices are zero
+pub record Cleared (before after : HitWords) : Type 0 where
+  pub starts : after .offs ≡ zeros (length (before .offs))
+  pub indices : after .marks ≡ zeros (length (before .marks))
 
-unfoldable pub named : List ℕ → Kind → List ℕ → ℕ → ℕ → Option ℕ
-named s kind wanted to p = namedBy s wanted to p (widthOf kind (byte s p))
+abbrev pub fitsBoth : ℕ → HitWords → Bool
+fitsBoth n words = leb n (length (words .offs)) && leb n (length (words .marks))
 
--- the hits from the start p on
-abbrev pub hitsFrom : List ℕ → Kind → List ℕ → ℕ → ℕ → ℕ → List Hit
-hitsFrom s kind wanted from to p = hitsIn (to - p) s kind wanted from to p
+-- n hits fit both slices, which stay, or the slices are cleared
+pub record Settled (n : ℕ) (before after : HitWords) (r : Answer) : Type 0 where
+  pub answer : r ≡ cond (fitsBoth n before) (Done n) (Refused LentTooShort)
+  pub starts : after .offs ≡ cond (fitsBoth n before) (before .offs) (zeros (length (before .offs)))
+  pub indices : after .marks ≡ cond (fitsBoth n before) (before .marks) (zeros (length (before .marks)))
+
+-- ---- the sets of wanted indices
 
 abbrev pub bit : Bool → ℕ
 bit true = 1
@@ -57,31 +75,62 @@ pub record WantedOf (wanted bits : List ℕ) (others : Bool) : Type 0 where
   pub at : (x : ℕ) → x < 64 * length bits → isHeld bits x ≡ isIn x wanted
   pub none-other : others ≡ false → (x : ℕ) → 64 * length bits ≤ x → isIn x wanted ≡ false
 
--- what an index of two bytes, looked up in a table, tells of a start, for whichever indices the table is of
-pub record EvenHit (s : List ℕ) (kind : Kind) (table : List ℕ) (p : ℕ) (mark : Option ℕ) : Type 0 where
-  pub is : (wanted : List ℕ) (to : ℕ) → TableOf wanted table → p + 4 ≤ to → mark ≡ named s kind wanted to p
+-- ---- one start
+
+abbrev pub marked : Hit → Option ℕ
+marked (Mark x) = some x
+marked Nothing = none
+
+-- the wanted index that the bytes at p name, whether p is tried or not
+abbrev pub namedBy : List ℕ → (ℕ → Bool) → ℕ → ℕ → ℕ → Option ℕ
+namedBy s wants to p w = cond (ltb 0 w && leb (p + 2 + w) to && wants (indexAt s (p + 2) w)) (some (indexAt s (p + 2) w)) none
+
+unfoldable pub named : List ℕ → dalvik.Kind → (ℕ → Bool) → ℕ → ℕ → Option ℕ
+named s kind wants to p = namedBy s wants to p (widthOf kind (byte s p))
+
+-- a table that tells for each index of two bytes whether it is wanted
+abbrev pub Told : List ℕ → (ℕ → Bool) → Type 0
+Told table wants = (x : ℕ) → x < 65536 → tabled table x ≡ wants x
+
+-- what an index of two bytes, looked up in a table, tells of a start
+pub record EvenHit (s : List ℕ) (kind : dalvik.Kind) (table : List ℕ) (p : ℕ) (mark : Option ℕ) : Type 0 where
+  pub is : (wants : ℕ → Bool) (to : ℕ) → Told table wants → p + 4 ≤ to → mark ≡ named s kind wants to p
+
+-- ---- starts that are skipped
+
+-- no hit starts before p, from which on the rest is the same
+pub record Came (s : List ℕ) (Q : Sought) (p : ℕ) : Type 0 where
+  pub same : hitsBy s Q ≡ hitsBy s (onFrom Q p)
+  pub onward : Q .from ≤ p
+  pub inside : p ≤ Q .to
 
 -- no string hit starts from p up to r
 pub record Skipped (s : List ℕ) (to p r : ℕ) : Type 0 where
   pub onward : p ≤ r
   pub inside : r ≤ to
-  pub same : (wanted : List ℕ) (from : ℕ) → hitsFrom s strings wanted from to p ≡ hitsFrom s strings wanted from to r
+  pub same : (wants : ℕ → Bool) → hitsBy s (sought strings wants p to) ≡ hitsBy s (sought strings wants r to)
 
--- no hit of another kind starts from p up to r, where p is an even start
+-- no hit of another kind starts from p up to r
 pub record SkippedEven (s : List ℕ) (to : ℕ) (table : List ℕ) (p r : ℕ) : Type 0 where
   pub onward : p ≤ r
   pub inside : r ≤ to
-  pub even : (r - p) % 2 ≡ 0
-  pub same : (kind : Kind) (wanted : List ℕ) (from : ℕ) → isStrings kind ≡ false → TableOf wanted table → from ≤ p → (p - from) % 2 ≡ 0
-      → hitsFrom s kind wanted from to p ≡ hitsFrom s kind wanted from to r
+  pub same : (kind : dalvik.Kind) (wants : ℕ → Bool) → isStrings kind ≡ false → Told table wants
+      → hitsBy s (sought kind wants p to) ≡ hitsBy s (sought kind wants r to)
 
--- what one start tells of n hits stored and the lent words: one hit more, or nothing
-pub data Stored (mark : Option ℕ) (p n : ℕ) (offs₀ marks₀ offs₁ marks₁ : List ℕ) (r : ℕ) : Type 0 where
-  a-hit : (x : ℕ) → mark ≡ some x → offs₁ ≡ set offs₀ n p → marks₁ ≡ set marks₀ n x → r ≡ n + 1 → Stored mark p n offs₀ marks₀ offs₁ marks₁ r
-  nothing : mark ≡ none → offs₁ ≡ offs₀ → marks₁ ≡ marks₀ → r ≡ n → Stored mark p n offs₀ marks₀ offs₁ marks₁ r
+-- the next hit of a kind other than strings
+abbrev pub FindsEven : List ℕ → dalvik.Kind → List ℕ → ℕ → ℕ → Found → Type 0
+FindsEven s kind table from to r = (wants : ℕ → Bool) → Told table wants → Finds s (sought kind wants from to) r
+
+-- ---- the whole region
+
+-- a region inside a file that is not too large
+pub record Region (s : List ℕ) (from to : ℕ) : Type 0 where
+  pub forward : from ≤ to
+  pub inside : to ≤ length s
+  pub small : length s ≤ largestFile
 
 -- n hits, and what storing them makes of lent words; a store past the end changes nothing
-pub record Collected (hits : List Hit) (offs₀ marks₀ offs₁ marks₁ : List ℕ) (n : ℕ) : Type 0 where
+pub record Collected (hits : List S.Hit) (before after : HitWords) (n : ℕ) : Type 0 where
   pub counted : n ≡ length hits
-  pub starts : offs₁ ≡ sets offs₀ 0 (offs hits)
-  pub indices : marks₁ ≡ sets marks₀ 0 (marks hits)
+  pub starts : after .offs ≡ sets (before .offs) 0 (S.offs hits)
+  pub indices : after .marks ≡ sets (before .marks) 0 (S.marks hits)

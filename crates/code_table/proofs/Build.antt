@@ -23,9 +23,10 @@ use Rattle.class_data.specs.Walk.Walk.{found}
 use Rattle.class_data.proofs.Found.{length-triples}
 use Rattle.class_data.specs.Stored.{firstBucket, lastBucket, startsOf}
 use Rattle.code_table.specs.Slots.{baseOf, topOf, tableOf}
+use Rattle.code_table.specs.RegionEnd.{regionEnd}
 use Rattle.code_table.specs.Build.{Room, Build, noBuild, wholeBuild, builtFrom, mostShares}
-use Rattle.code_table.specs.Answer.{roomOf, GivesBuild}
-use Rattle.code_table.specs.Steps.{noCode, Triples, room, HoldsAll, TabledAs}
+use Rattle.code_table.specs.Answer.{TableWords, tableWords, roomOf, GivesBuild}
+use Rattle.code_table.specs.Steps.{noCode, Triples, room, SlotWords, slotWords, HoldsAll, TabledAs}
 use Rattle.code_table.specs.declared.Tabled.{Tabled}
 use Rattle.code_table.specs.declared.Tabled.the-variants.{Filled, Short}
 use Rattle.code_table.specs.declared.Built.the-variants.{Done, Refused}
@@ -57,9 +58,9 @@ module _ (ts : List ℕ) (n : ℕ) (cs : List Code) (T : Triples ts n cs) where
   base-below = base-top cs rising
 
 -- ---- the outcome of codes found
-module _ (m e : ℕ) (lent : Room) (cs : List Code) where
+module _ (len m e : ℕ) (lent : Room) (cs : List Code) where
   pub from-whole : 3 * length cs ≤ lent .triples → topOf cs - baseOf cs ≤ lent .slots
-      → length (tableOf cs .shares) ≤ lent .shares → length (tableOf cs .shares) ≤ mostShares → builtFrom m lent (found cs e) ≡ wholeBuild m cs
+      → length (tableOf cs .shares) ≤ lent .shares → length (tableOf cs .shares) ≤ mostShares → builtFrom len m lent (found cs e) ≡ wholeBuild len m cs
   from-whole p q r s =
       rw (
         le-leb (3 * length cs) (lent .triples) p,
@@ -85,19 +86,25 @@ module _ (m e : ℕ) (lent : Room) (cs : List Code) where
       ⊎-elim (λ h. omega arith) (λ h. omega arith) d
 
   pub from-short : (lent .slots < topOf cs - baseOf cs) ⊎ (room (lent .shares) < length (tableOf cs .shares))
-      → builtFrom m lent (found cs e) ≡ noBuild 4
+      → builtFrom len m lent (found cs e) ≡ noBuild 4
   from-short d =
       cond-elim (λ (o : Build). o ≡ noBuild 4)
       (leb (3 * length cs) (lent .triples) && leb (topOf cs - baseOf cs) (lent .slots) && leb (length (tableOf cs .shares)) (lent .shares)
       && leb (length (tableOf cs .shares)) mostShares)
-      (wholeBuild m cs) (noBuild 4) (λ q. absurd (never d q)) (λ q. refl)
+      (wholeBuild len m cs) (noBuild 4) (λ q. absurd (never d q)) (λ q. refl)
+
+-- lent words that are all zero, as long as before
+pub record AllZero (before after : TableWords) : Type 0 where
+  pub starts : after .starts ≡ zeros (length (before .starts))
+  pub triples : after .triples ≡ zeros (length (before .triples))
+  pub slots : after .slots ≡ zeros (length (before .slots))
+  pub shares : after .shares ≡ zeros (length (before .shares))
 
 -- a refusal's answer, and lent words that are all zero
-pub gives-none : (b : Build) (lent : Room) (r : Refusal) (zs ts xs ws : List ℕ) → b ≡ noBuild (refusalNumber r)
-    → zs ≡ zeros (lent .starts) → ts ≡ zeros (lent .triples) → xs ≡ zeros (lent .slots) → ws ≡ zeros (lent .shares)
-    → GivesBuild b lent (Refused r) zs ts xs ws
-gives-none b lent r zs ts xs ws e p q u v =
-    subst⁻¹ (λ (o : Build). GivesBuild o lent (Refused r) zs ts xs ws) e
+pub gives-none : (b : Build) (r : Refusal) (before after : TableWords) → b ≡ noBuild (refusalNumber r) → AllZero before after
+    → GivesBuild b (Refused r) before after
+gives-none b r before after e z =
+    subst⁻¹ (λ (o : Build). GivesBuild o (Refused r) before after) e
     (record {
       number = refl;
       from = refl;
@@ -105,28 +112,33 @@ gives-none b lent r zs ts xs ws e p q u v =
       code-count = refl;
       slot-count = refl;
       share-words = refl;
-      starts = p ∙ sym (padded-none (lent .starts));
-      triples = q ∙ sym (padded-none (lent .triples));
-      slots = u ∙ sym (padded-none (lent .slots));
-      shares = v ∙ sym (padded-none (lent .shares));
+      starts = z .starts ∙ sym (padded-none (length (before .starts)));
+      triples = z .triples ∙ sym (padded-none (length (before .triples)));
+      slots = z .slots ∙ sym (padded-none (length (before .slots)));
+      shares = z .shares ∙ sym (padded-none (length (before .shares)));
     })
 
-module _ (ts : List ℕ) (n : ℕ) (cs : List Code) (T : Triples ts n cs) (m e : ℕ) (zs xs ws : List ℕ) where
-  pub whole : (b t k : ℕ) (ys vs : List ℕ) → HoldsAll (length xs) (length ws) cs b t k ys vs → zs ≡ padded (length zs) (startsOf m cs)
-      → GivesBuild (builtFrom m (roomOf zs ts xs ws) (found cs e)) (roomOf zs ts xs ws)
-      (Done (record { start = b * 16; end = t * 16 }) n (t - b) k) zs ts ys vs
-  whole b t k ys vs A s =
+-- the slots and shares of the four lent slices
+abbrev pub slotsIn : TableWords → SlotWords
+slotsIn w = slotWords (w .slots) (w .shares)
+
+module _ (len n : ℕ) (cs : List Code) (before : TableWords) (T : Triples (before .triples) n cs) (m e : ℕ) where
+  pub whole : (b t k x : ℕ) (w : SlotWords) → HoldsAll cs b t k (slotsIn before) w → x ≡ regionEnd len cs → before .starts ≡ padded (length (before .starts)) (startsOf m cs)
+      → GivesBuild (builtFrom len m (roomOf before) (found cs e)) (Done (record { start = b * 16; end = x }) n (t - b) k)
+      before (tableWords (before .starts) (before .triples) (w .slots) (w .shares))
+  whole b t k x w A E s =
       let H = A .held in
-      let p : 3 * length cs ≤ length ts = omega (arith, T .there, T .count) in
-      let q : length (tableOf cs .shares) ≤ room (length ws) = omega (arith, H .used, H .fits) in
-      subst⁻¹ (λ (o : Build). GivesBuild o (roomOf zs ts xs ws) (Done (record { start = b * 16; end = t * 16 }) n (t - b) k) zs ts ys vs)
-      (from-whole m e (roomOf zs ts xs ws) cs p (A .enough) (omega arith) (omega arith))
+      let p : 3 * length cs ≤ length (before .triples) = omega (arith, T .there, T .count) in
+      let q : length (tableOf cs .shares) ≤ room (length (before .shares)) = omega (arith, H .used, H .fits) in
+      let after = tableWords (before .starts) (before .triples) (w .slots) (w .shares) in
+      subst⁻¹ (λ (o : Build). GivesBuild o (Done (record { start = b * 16; end = x }) n (t - b) k) before after)
+      (from-whole len m e (roomOf before) cs p (A .enough) (omega arith) (omega arith))
       (record {
         number = refl;
         from = ap (λ (x : ℕ). x * 16) (A .base);
-        to = ap (λ (x : ℕ). x * 16) (A .top);
+        to = E;
         code-count = omega (arith, length-triples cs, T .count);
-        slot-count = ap₂ (λ (x y : ℕ). x - y) (A .top) (A .base) ∙ sym (table-length cs (rising ts n cs T));
+        slot-count = ap₂ (λ (x y : ℕ). x - y) (A .top) (A .base) ∙ sym (table-length cs (rising (before .triples) n cs T));
         share-words = H .used;
         starts = s;
         triples = T .words;
@@ -134,16 +146,14 @@ module _ (ts : List ℕ) (n : ℕ) (cs : List Code) (T : Triples ts n cs) (m e :
         shares = H .shares;
       })
 
-  pub short : (zs′ ts′ ys vs : List ℕ) → (length xs < topOf cs - baseOf cs) ⊎ (room (length ws) < length (tableOf cs .shares))
-      → zs′ ≡ zeros (length zs) → ts′ ≡ zeros (length ts) → ys ≡ zeros (length xs) → vs ≡ zeros (length ws)
-      → GivesBuild (builtFrom m (roomOf zs ts xs ws) (found cs e)) (roomOf zs ts xs ws) (Refused LentTooShort) zs′ ts′ ys vs
-  short zs′ ts′ ys vs d p q u v =
-      gives-none _ (roomOf zs ts xs ws) LentTooShort zs′ ts′ ys vs (from-short m e (roomOf zs ts xs ws) cs d) p q u v
+  pub short : (after : TableWords) → (length (before .slots) < topOf cs - baseOf cs) ⊎ (room (length (before .shares)) < length (tableOf cs .shares))
+      → AllZero before after → GivesBuild (builtFrom len m (roomOf before) (found cs e)) (Refused LentTooShort) before after
+  short after d z = gives-none _ LentTooShort before after (from-short len m e (roomOf before) cs d) z
 
 -- ---- an answer of `slot_table`, taken apart
-pub tabled-filled : (N W : ℕ) (cs : List Code) (r : Tabled) (ys vs : List ℕ) (b e k : ℕ) → r ≡ Filled b e k → TabledAs N W cs r ys vs → HoldsAll N W cs b e k ys vs
-tabled-filled N W cs r ys vs b e k q A = subst (λ (x : Tabled). TabledAs N W cs x ys vs) q A
+module _ (cs : List Code) (r : Tabled) (before after : SlotWords) (A : TabledAs cs r before after) where
+  pub tabled-filled : (b e k : ℕ) → r ≡ Filled b e k → HoldsAll cs b e k before after
+  tabled-filled b e k q = subst (λ (x : Tabled). TabledAs cs x before after) q A
 
-pub tabled-short : (N W : ℕ) (cs : List Code) (r : Tabled) (ys vs : List ℕ) → r ≡ Short → TabledAs N W cs r ys vs
-    → (N < topOf cs - baseOf cs) ⊎ (room W < length (tableOf cs .shares))
-tabled-short N W cs r ys vs q A = subst (λ (x : Tabled). TabledAs N W cs x ys vs) q A
+  pub tabled-short : r ≡ Short → (length (before .slots) < topOf cs - baseOf cs) ⊎ (room (length (before .shares)) < length (tableOf cs .shares))
+  tabled-short q = subst (λ (x : Tabled). TabledAs cs x before after) q A

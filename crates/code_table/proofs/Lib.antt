@@ -1,3 +1,4 @@
+pub mod RegionEnd
 pub mod Slots
 pub mod Build
 pub mod Walked

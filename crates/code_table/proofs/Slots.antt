@@ -1,5 +1,5 @@
 -- Laws of the slot table. The table of the codes so far grows by one code at a time: slots are only overwritten and shares only appended,
--- so the lent words that hold it hold the next one after one stretch is filled and one share put behind the others.
+-- so the lent words that hold it hold the next one after one stretch is filled and one share put after the others.
 --     first-word, last-word, method-word    the three words of code i
 --     base-least, top-greatest              every code lies between the least bucket and the greatest
 --     lowest-step, top-step                 one code more
@@ -22,7 +22,7 @@ use Rattle.words.proofs.Shared.{cond-elim}
 use Rattle.dalvik.specs.CodeItem.{Code}
 use Rattle.class_data.specs.Stored.{firstBucket, lastBucket, triplesOf}
 use Rattle.code_table.specs.Slots.{lowest, baseOf, topOf, shared, joined, joinedSlot, Table, place, tableFrom, tableOf}
-use Rattle.code_table.specs.Steps.{noCode, Triples, room, Words, Holds, After, Placeable, PlacedIn}
+use Rattle.code_table.specs.Steps.{noCode, Triples, room, Triple, threeWords, Words, SlotWords, slotWords, Holds, After, Placeable, PlacedIn}
 use Rattle.code_table.specs.declared.Placed.{Placed}
 use Rattle.code_table.specs.declared.Placed.the-variants.{Done, Full}
 
@@ -96,7 +96,7 @@ pub lowest-seed-word : (ts : List ℕ) (n : ℕ) (cs : List Code) → Triples ts
 lowest-seed-word ts n cs T =
     ap (λ (l : List ℕ). lowest (getD l 0 0) (drop 1 cs)) (T .words) ∙ ap (λ (x : ℕ). lowest x (drop 1 cs)) (padded-at (length ts) (triplesOf cs) 0) ∙ seed cs
 
--- ---- words put behind the others
+-- ---- words put after the others
 padded-more : (n : ℕ) (xs ys : List ℕ) (k : ℕ) → k ≡ length xs → k + length ys ≤ n → sets (padded n xs) k ys ≡ padded n (xs ++ ys)
 padded-more n xs [] k e h = rw append-nil
 padded-more n xs (y ∷ ys) k e h =
@@ -147,8 +147,23 @@ unfolding joined
 joined-padded W v m ws = rw padded-at
 
 -- ---- a code placed in lent words
-module _ (N W base f l m : ℕ) (c : Code) (t : Table) (xs ws : List ℕ) (k : ℕ) (H : Holds N W t xs ws k) (w : Words c f l m)
-    (above : base ≤ f) (rises : f ≤ l) (inside : l - base < length (t .slots)) where
+module _ {N W base : ℕ} {x : Triple} {c : Code} {t : Table} {lent : SlotWords} {k : ℕ} (H : Holds N W t lent k) (w : Words c x)
+    (above : base ≤ x .first) (rises : x .first ≤ x .last) (inside : x .last - base < length (t .slots)) where
+  abbrev f : ℕ
+  f = x .first
+
+  abbrev l : ℕ
+  l = x .last
+
+  abbrev m : ℕ
+  m = x .method
+
+  abbrev xs : List ℕ
+  xs = lent .slots
+
+  abbrev ws : List ℕ
+  ws = lent .shares
+
   at-is : f - base ≡ firstBucket c - base
   at-is = ap (λ (x : ℕ). x - base) (w .first)
 
@@ -166,7 +181,7 @@ module _ (N W base f l m : ℕ) (c : Code) (t : Table) (xs ws : List ℕ) (k : �
       ∙ stretch-padded N (t .slots) (firstBucket c - base) (suc (lastBucket c) - firstBucket c) v q
 
   pub held-free : (ys : List ℕ) → ys ≡ stretch xs (f - base) (l - base + 1 - (f - base)) (m + 1) → getD xs (f - base) 0 ≡ 0
-      → Holds N W (place base c t) ys ws k
+      → Holds N W (place base c t) (slotWords ys ws) k
   unfolding place
   held-free ys e z =
       let v = getD (t .slots) (firstBucket c - base) 0 in
@@ -184,7 +199,7 @@ module _ (N W base f l m : ℕ) (c : Code) (t : Table) (xs ws : List ℕ) (k : �
     more = length-append (t .shares) _ ∙ ap₂ (λ (x y : ℕ). x + y) (sym (H .used)) (joined-three _ (c .method) (t .shares) not-free)
 
     pub held-share : (ys vs : List ℕ) → ys ≡ stretch xs (f - base) (l - base + 1 - (f - base)) (2147483648 + k / 3)
-        → vs ≡ sets ws k (joined (getD xs (f - base) 0) m ws) → k + 3 ≤ room W → Holds N W (place base c t) ys vs (k + 3)
+        → vs ≡ sets ws k (joined (getD xs (f - base) 0) m ws) → k + 3 ≤ room W → Holds N W (place base c t) (slotWords ys vs) (k + 3)
     unfolding place
     held-share ys vs e g h =
         let v = getD (t .slots) (firstBucket c - base) 0 in
@@ -264,17 +279,17 @@ table-over cs i r h =
     let n = ap (λ (t : Table). length (t .shares)) e in
     omega (arith, grows (baseOf cs) (upTo cs i) (drop i cs))
 
-pub held-none : (N W : ℕ) (cs : List Code) (xs ws : List ℕ) → xs ≡ zeros N → ws ≡ zeros W → topOf cs - baseOf cs ≤ N → Holds N W (upTo cs 0) xs ws 0
+pub held-none : (N W : ℕ) (cs : List Code) (xs ws : List ℕ) → xs ≡ zeros N → ws ≡ zeros W → topOf cs - baseOf cs ≤ N → Holds N W (upTo cs 0) (slotWords xs ws) 0
 held-none N W cs xs ws p q h =
     record { slots = p ∙ sym (padded-zeros N (topOf cs - baseOf cs) h); shares = q ∙ sym (padded-none W); used = refl; fits = omega arith }
 
 -- ---- code i placed by its triple
-module _ (ts : List ℕ) (n : ℕ) (cs : List Code) (T : Triples ts n cs) (base i : ℕ) (h : i < n) (least : base ≡ baseOf cs) where
+module _ {ts : List ℕ} {n : ℕ} {cs : List Code} (T : Triples ts n cs) {base : ℕ} (i : ℕ) (h : i < n) (least : base ≡ baseOf cs) where
   below : i < length cs
   below = omega (arith, T .count)
 
   pub placeable : (xs ws : List ℕ) (used : ℕ) → topOf cs - base ≤ length xs → used ≤ length ws
-      → Placeable xs ws used base (getD ts (3 * i) 0) (getD ts (3 * i + 1) 0) (getD ts (3 * i + 2) 0)
+      → Placeable (slotWords xs ws) used base (threeWords (getD ts (3 * i) 0) (getD ts (3 * i + 1) 0) (getD ts (3 * i + 2) 0))
   placeable xs ws used e u =
       let f = first-word ts n cs T i h in
       let l = last-word ts n cs T i h in
@@ -284,10 +299,10 @@ module _ (ts : List ℕ) (n : ℕ) (cs : List Code) (T : Triples ts n cs) (base 
       let t = top-greatest cs i below in
       record { above = omega arith; rises = omega arith; inside = omega arith; small = omega arith; fits = u }
 
-  pub turn : (N W used : ℕ) (xs ws : List ℕ) (r : Placed) (ys vs : List ℕ) → length ws ≡ W → Holds N W (upTo cs i) xs ws used
-      → PlacedIn base (getD ts (3 * i) 0) (getD ts (3 * i + 1) 0) (getD ts (3 * i + 2) 0) xs ws used r ys vs
-      → After N W (upTo cs (i + 1)) r ys vs
-  turn N W used xs ws r ys vs w H P =
+  pub turn : {N W used : ℕ} (r : Placed) (before after : SlotWords) → length (before .shares) ≡ W → Holds N W (upTo cs i) before used
+      → PlacedIn base (threeWords (getD ts (3 * i) 0) (getD ts (3 * i + 1) 0) (getD ts (3 * i + 2) 0)) used r before after
+      → After N W (upTo cs (i + 1)) r after
+  turn {N} {W} {used} r before after w H P =
       let d = getD cs i noCode in
       let f = first-word ts n cs T i h in
       let l = last-word ts n cs T i h in
@@ -299,10 +314,10 @@ module _ (ts : List ℕ) (n : ℕ) (cs : List Code) (T : Triples ts n cs) (base 
       let z : getD ts (3 * i + 1) 0 - base < length (upTo cs i .slots) = omega arith in
       let A = P N W d (upTo cs i) w (record { first = f; last = l; method = m }) z H in
       let e : place base d (upTo cs i) ≡ upTo cs (i + 1) = ap (λ (x : ℕ). place x d (upTo cs i)) least ∙ sym (table-step cs i below) in
-      subst (λ (t : Table). After N W t r ys vs) e A
+      subst (λ (t : Table). After N W t r after) e A
 
-pub after-done : {N W : ℕ} {t : Table} {r : Placed} {ys vs : List ℕ} (k : ℕ) → r ≡ Done k → After N W t r ys vs → Holds N W t ys vs k
-after-done {N} {W} {t} {r} {ys} {vs} k e A = subst (λ (x : Placed). After N W t x ys vs) e A
+pub after-done : {N W : ℕ} {t : Table} {r : Placed} {w : SlotWords} (k : ℕ) → r ≡ Done k → After N W t r w → Holds N W t w k
+after-done {N} {W} {t} {r} {w} k e A = subst (λ (x : Placed). After N W t x w) e A
 
-pub after-full : (N W : ℕ) (t : Table) (r : Placed) (ys vs : List ℕ) → r ≡ Full → After N W t r ys vs → room W < length (t .shares)
-after-full N W t r ys vs e A = subst (λ (x : Placed). After N W t x ys vs) e A
+pub after-full : (N W : ℕ) (t : Table) (r : Placed) (w : SlotWords) → r ≡ Full → After N W t r w → room W < length (t .shares)
+after-full N W t r w e A = subst (λ (x : Placed). After N W t x w) e A

@@ -23,11 +23,11 @@ use Rattle.class_data.specs.Walk.{Walk}
 use Rattle.class_data.specs.Walk.Walk.{refused, found}
 use Rattle.class_data.specs.Codes.{codesOf}
 use Rattle.class_data.specs.Found.{fitting, codesIn}
-use Rattle.class_data.specs.Stored.{triplesOf, startsOf}
+use Rattle.class_data.specs.Stored.{CodeWords, codeWords, triplesOf, startsOf}
 use Rattle.class_data.proofs.Found.{CodeIn, Each, codes-sound, Taken}
 use Rattle.code_table.specs.Slots.{tableOf, baseOf, topOf}
 use Rattle.code_table.specs.Build.{Room, Build, noBuild, builtFrom, buildOut, wholeBuild, mostShares}
-use Rattle.code_table.specs.Answer.{roomOf, GivesBuild, Parsed}
+use Rattle.code_table.specs.Answer.{TableWords, roomOf, GivesBuild}
 use Rattle.code_table.specs.Steps.{noCode, Sound, Triples, Finished}
 use Rattle.code_table.specs.declared.Built.{Built}
 use Rattle.code_table.proofs.Build.{from-whole}
@@ -57,10 +57,10 @@ unfit r w o true b c d f q = absurd (f q)
 unfit r w o false b c d f q = itself r LentTooShort q
 
 module _ (s : List ℕ) (h : DexHeader) (room : Room) (r : Refusal) where
-  fits-not : (m : ℕ) (w : Walk) → Loses r (fitting (room .triples) w) (builtFrom m room w)
+  fits-not : (m : ℕ) (w : Walk) → Loses r (fitting (room .triples) w) (builtFrom (length s) m room w)
   fits-not m (refused q) e = itself r q e
   fits-not m (found cs n) e =
-      unfit r (found cs n) (wholeBuild m cs) (leb (3 * length cs) (room .triples)) (leb (topOf cs - baseOf cs) (room .slots))
+      unfit r (found cs n) (wholeBuild (length s) m cs) (leb (3 * length cs) (room .triples)) (leb (topOf cs - baseOf cs) (room .slots))
       (leb (length (tableOf cs .shares)) (room .shares)) (leb (length (tableOf cs .shares)) mostShares) (λ q. apart r cs n q) e
 
   pub lost : refused r ≡ codesIn s h (room .triples) (room .starts) → buildOut s h room ≡ noBuild (refusalNumber r)
@@ -70,15 +70,15 @@ module _ (s : List ℕ) (h : DexHeader) (room : Room) (r : Refusal) where
       (both r (leb (h .methods .size) (room .starts)) _ _ _ _ (fits-not (h .methods .size) (codesOf s h)) (itself r LentTooShort))
 
 pub gained : (s : List ℕ) (h : DexHeader) (room : Room) (w : Walk) → w ≡ codesOf s h → length s ≤ 16777216 → h .methods .size ≤ room .starts
-    → buildOut s h room ≡ builtFrom (h .methods .size) room w
+    → buildOut s h room ≡ builtFrom (length s) (h .methods .size) room w
 unfolding buildOut
 gained s h room w e p q = rw (le-ltb 16777216 (length s) p, le-leb (h .methods .size) (room .starts) q, e)
 
 -- lent words that suffice
 pub build-whole : (s : List ℕ) (h : DexHeader) (room : Room) (cs : List Code) (e : ℕ) → found cs e ≡ codesOf s h → length s ≤ 16777216
     → h .methods .size ≤ room .starts → 3 * length cs ≤ room .triples → topOf cs - baseOf cs ≤ room .slots
-    → length (tableOf cs .shares) ≤ room .shares → length (tableOf cs .shares) ≤ mostShares → buildOut s h room ≡ wholeBuild (h .methods .size) cs
-build-whole s h room cs e w p q a b c d = gained s h room (found cs e) w p q ∙ from-whole (h .methods .size) e room cs a b c d
+    → length (tableOf cs .shares) ≤ room .shares → length (tableOf cs .shares) ≤ mostShares → buildOut s h room ≡ wholeBuild (length s) (h .methods .size) cs
+build-whole s h room cs e w p q a b c d = gained s h room (found cs e) w p q ∙ from-whole (length s) (h .methods .size) e room cs a b c d
 
 -- what holds of each code holds of code i
 each-at : (P : Code → Type 0) (cs : List Code) → Each P cs → (i : ℕ) → i < length cs → P (getD cs i noCode)
@@ -97,21 +97,41 @@ pub sound-at : (s : List ℕ) (h : DexHeader) (cs : List Code) (e : ℕ) → fou
     → (i : ℕ) → i < length cs → Sound (getD cs i noCode)
 sound-at s h cs e w p i q = sound-code s (h .methods .size) _ p (each-at _ cs (codes-sound s h cs e w) i q)
 
-module _ (s : List ℕ) (h : DexHeader) (n : ℕ) (zs ts zs₁ ts₁ : List ℕ) (K : Taken s h n ts ts₁ zs zs₁) (lt : length ts₁ ≡ length ts) where
-  pub taken-triples : Triples ts₁ n (K .codes)
+-- what the outcome says of lent words, only their lengths decide
+same-room : {b : Build} {r : Built} (before mid after : TableWords) → roomOf mid ≡ roomOf before → GivesBuild b r mid after → GivesBuild b r before after
+same-room {b} before mid after e G = record {
+  number = G .number;
+  from = G .from;
+  to = G .to;
+  code-count = G .code-count;
+  slot-count = G .slot-count;
+  share-words = G .share-words;
+  starts = G .starts ∙ ap (λ (x : Room). padded (x .starts) (b .starts)) e;
+  triples = G .triples ∙ ap (λ (x : Room). padded (x .triples) (b .triples)) e;
+  slots = G .slots ∙ ap (λ (x : Room). padded (x .slots) (b .slots)) e;
+  shares = G .shares ∙ ap (λ (x : Room). padded (x .shares) (b .shares)) e;
+}
+
+-- those of the lent words that `codes` fills
+abbrev pub filled : TableWords → CodeWords
+filled w = codeWords (w .triples) (w .starts)
+
+-- `codes` found n codes: the lent words before the build, and after `codes`
+module _ (s : List ℕ) (h : DexHeader) (n : ℕ) (before mid : TableWords)
+    (K : Taken s h n (filled before) (filled mid)) (l : roomOf mid ≡ roomOf before) where
+  pub taken-triples : Triples (mid .triples) n (K .codes)
   taken-triples = record {
-    words = K .triples ∙ ap (λ (k : ℕ). padded k (triplesOf (K .codes))) (sym lt);
-    there = omega (arith, K .fits, K .count);
+    words = K .triples ∙ ap (λ (x : Room). padded (x .triples) (triplesOf (K .codes))) (sym l);
+    there = omega (arith, K .fits, K .count, ap (λ (x : Room). x .triples) l);
     count = sym (K .count);
     sound = λ i q. sound-at s h (K .codes) (K .next) (K .walk) (K .small) i (omega (arith, K .count));
   }
 
-  pub gives-gained : (xs ws xs₁ ws₁ : List ℕ) → length zs₁ ≡ length zs → length xs₁ ≡ length xs → length ws₁ ≡ length ws
-      → (r : Built) (zs₂ ts₂ xs₂ ws₂ : List ℕ) → Finished n zs₁ ts₁ xs₁ ws₁ r zs₂ ts₂ xs₂ ws₂ → Parsed s h zs ts xs ws r zs₂ ts₂ xs₂ ws₂
-  gives-gained xs ws xs₁ ws₁ lz lx lw r zs₂ ts₂ xs₂ ws₂ F =
-      let room = roomOf zs ts xs ws in
-      let e : roomOf zs₁ ts₁ xs₁ ws₁ ≡ room = rw (lz, lt, lx, lw) in
-      let G = F (h .methods .size) (K .next) (K .codes) taken-triples (K .starts ∙ ap (λ (k : ℕ). padded k (startsOf (h .methods .size) (K .codes))) (sym lz)) in
-      let q : buildOut s h room ≡ builtFrom (h .methods .size) room (found (K .codes) (K .next)) = gained s h room _ (K .walk) (K .small) (K .room) in
-      subst⁻¹ (λ (o : Build). GivesBuild o room r zs₂ ts₂ xs₂ ws₂) q
-      (subst (λ (x : Room). GivesBuild (builtFrom (h .methods .size) x (found (K .codes) (K .next))) x r zs₂ ts₂ xs₂ ws₂) e G)
+  pub gives-gained : (r : Built) (after : TableWords) → Finished (length s) n r mid after → GivesBuild (buildOut s h (roomOf before)) r before after
+  gives-gained r after F =
+      let m = h .methods .size in
+      let w : Walk = found (K .codes) (K .next) in
+      let G = F m (K .next) (K .codes) taken-triples (K .starts ∙ ap (λ (x : Room). padded (x .starts) (startsOf m (K .codes))) (sym l)) in
+      let q : buildOut s h (roomOf before) ≡ builtFrom (length s) m (roomOf mid) w =
+      gained s h (roomOf before) _ (K .walk) (K .small) (K .room) ∙ ap (λ (x : Room). builtFrom (length s) m x w) (sym l) in
+      subst⁻¹ (λ (o : Build). GivesBuild o r before after) q (same-room before mid after l G)

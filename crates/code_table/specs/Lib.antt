@@ -1,4 +1,5 @@
-pub mod Slots
-pub mod Build
 pub mod Answer
+pub mod Build
+pub mod RegionEnd
+pub mod Slots
 pub mod Steps

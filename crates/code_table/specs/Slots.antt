@@ -1,4 +1,4 @@
--- The slot table, as document 01 says it under insn_locator.rs (`parse`): one word for each 16-byte bucket of the code region. A slot is
+-- The slot table (SPEC, Code table; `parse` of insn_locator.rs): one word for each 16-byte bucket of the code region. A slot is
 -- 0, method + 1, or 2^31 + the number of a share, which stands for a list of methods.
 -- Assumes nothing.
 use Prim.Native.Nat.{ℕ, suc, _+_, _-_, _*_, _/_, _^_, min, max}

@@ -6,11 +6,16 @@ ghost use lib.ListN.{length};
 ghost use lib.Seq.{sets};
 ghost use Rattle.dalvik.specs.CodeItem.{Code};
 ghost use Rattle.code_table.specs.Slots.{baseOf, topOf, joined};
-ghost use Rattle.code_table.specs.Answer.{Parsed};
-ghost use Rattle.code_table.specs.Steps.{Triples, Coded, room, Placeable, PlacedIn, Cleared, Spanned, AllPlaced, TabledAs, Finished};
+ghost use Rattle.code_table.specs.RegionEnd.{regionEnd};
+ghost use Rattle.code_table.specs.Build.{buildOut};
+ghost use Rattle.code_table.specs.Answer.{tableWords, roomOf, GivesBuild};
+ghost use Rattle.code_table.specs.Steps.{Triples, Coded, room, threeWords, slotWords, Placeable, PlacedIn, Cleared, Spanned, AllPlaced, TabledAs, Finished};
 use refusal::Answer;
 use refusal::Refusal;
 use tinydex::DexHeader;
+
+// A slot word of a share is this much above the share's number (`shared` of specs/Slots.antt); below it is a method's, plus one.
+pub const SHARED: u32 = 2147483648;
 
 // The bytes that hold code: from the first byte of the least bucket up to the end of the greatest.
 pub struct Region {
@@ -29,7 +34,7 @@ pub enum Built {
     Refused(Refusal),
 }
 
-// What placing codes leaves: so many words of shares are in use, or a share found no room.
+// What placing codes leaves: how many words of shares are in use, or a share found no room.
 enum Placed {
     Done(usize),
     Full,
@@ -69,7 +74,7 @@ fn greatest(triples: &[u32], n: usize) -> u32
     r
 }
 
-// So many words of shares can be used of n lent ones: a share's number has 31 bits.
+// How many of n lent words of shares can be used: a share's number has 31 bits.
 fn share_room(n: usize) -> usize
     ensures { λ r. ⌜ r ≡ room n ⌝ }
 {
@@ -91,10 +96,10 @@ fn add_share(shares: &mut [u32], at: usize, v: u32, method: u32)
     requires { ⌜ (at + 3 ≤ length (now shares)) × (0 < v) ⌝ }
     ensures { λ _. ⌜ now (shares .exit) ≡ sets (now (shares .entry)) at (joined v method (now (shares .entry))) ⌝ }
 {
-    if v < 2147483648 {
+    if v < SHARED {
         put_share(shares, at, method, v - 1, 0);
     } else {
-        let k = v - 2147483648;
+        let k = v - SHARED;
         let first = words::word_at(shares, 3 * (k as usize));
         put_share(shares, at, first, method, k + 1);
     }
@@ -110,8 +115,11 @@ fn place(
     last: u32,
     method: u32,
 ) -> Placed
-    requires { ⌜ Placeable (now slots) (now shares) used base first last method ⌝ }
-    ensures { λ r. ⌜ PlacedIn base first last method (now (slots .entry)) (now (shares .entry)) used r (now (slots .exit)) (now (shares .exit)) ⌝ }
+    requires { ⌜ Placeable (slotWords (now slots) (now shares)) used base (threeWords first last method) ⌝ }
+    ensures { λ r.
+        let before = slotWords (now (slots .entry)) (now (shares .entry)) in
+        let after = slotWords (now (slots .exit)) (now (shares .exit)) in
+        ⌜ PlacedIn base (threeWords first last method) used r before after ⌝ }
 {
     let a = (first - base) as usize;
     let e = (last - base) as usize + 1;
@@ -124,14 +132,17 @@ fn place(
         return Placed::Full;
     }
     add_share(shares, used, v, method);
-    words::fill(&mut slots[a..e], 2147483648 + (used / 3) as u32);
+    words::fill(&mut slots[a..e], SHARED + (used / 3) as u32);
     Placed::Done(used + 3)
 }
 
 // The codes placed one after another, up to the first share without room.
 fn place_all(triples: &[u32], n: usize, base: u32, slots: &mut [u32], shares: &mut [u32]) -> Placed
-    requires { ⌜ Spanned (now triples) n base (now slots) (now shares) ⌝ }
-    ensures { λ r. ⌜ AllPlaced (now (triples .entry)) n base (length (now (slots .entry))) (length (now (shares .entry))) r (now (slots .exit)) (now (shares .exit)) ⌝ }
+    requires { ⌜ Spanned (now triples) n base (slotWords (now slots) (now shares)) ⌝ }
+    ensures { λ r.
+        let before = slotWords (now (slots .entry)) (now (shares .entry)) in
+        let after = slotWords (now (slots .exit)) (now (shares .exit)) in
+        ⌜ AllPlaced (now (triples .entry)) n base r before after ⌝ }
 {
     let mut used = 0;
     let mut i = 0;
@@ -160,8 +171,11 @@ fn place_all(triples: &[u32], n: usize, base: u32, slots: &mut [u32], shares: &m
 
 // The slots and shares of n codes, from their triples.
 fn slot_table(triples: &[u32], n: usize, slots: &mut [u32], shares: &mut [u32]) -> Tabled
-    requires { ⌜ Cleared (now triples) n (now slots) (now shares) ⌝ }
-    ensures { λ r. ⌜ ((cs : List Code) → Triples (now (triples .entry)) n cs → TabledAs (length (now (slots .entry))) (length (now (shares .entry))) cs r (now (slots .exit)) (now (shares .exit))) ⌝ }
+    requires { ⌜ Cleared (now triples) n (slotWords (now slots) (now shares)) ⌝ }
+    ensures { λ r.
+        let before = slotWords (now (slots .entry)) (now (shares .entry)) in
+        let after = slotWords (now (slots .exit)) (now (shares .exit)) in
+        ⌜ ((cs : List Code) → Triples (now (triples .entry)) n cs → TabledAs cs r before after) ⌝ }
 {
     let base = least(triples, n);
     let top = greatest(triples, n);
@@ -179,22 +193,34 @@ fn slot_table(triples: &[u32], n: usize, slots: &mut [u32], shares: &mut [u32]) 
     }
 }
 
-// The answer for n codes found, whose triples and start words stand in the lent slices.
+// Where the code region of a file of len bytes ends, by one more than the greatest last bucket.
+fn region_end(top: u32, len: usize) -> u32
+    requires { ⌜ top ≤ 1048576 ⌝ }
+    ensures { λ r. ⌜ ((cs : List Code) → top ≡ topOf cs → r ≡ regionEnd len cs) ⌝ }
+{
+    top * 16
+}
+
+// The answer for n codes found in a file of len bytes, whose triples and start words stand in the lent slices.
 fn finish(
+    len: usize,
     n: usize,
     starts: &mut [u32],
     triples: &mut [u32],
     slots: &mut [u32],
     shares: &mut [u32],
 ) -> Built
-    requires { ⌜ Cleared (now triples) n (now slots) (now shares) ⌝ }
-    ensures { λ r. ⌜ Finished n (now (starts .entry)) (now (triples .entry)) (now (slots .entry)) (now (shares .entry)) r (now (starts .exit)) (now (triples .exit)) (now (slots .exit)) (now (shares .exit)) ⌝ }
+    requires { ⌜ Cleared (now triples) n (slotWords (now slots) (now shares)) ⌝ }
+    ensures { λ r.
+        let before = tableWords (now (starts .entry)) (now (triples .entry)) (now (slots .entry)) (now (shares .entry)) in
+        let after = tableWords (now (starts .exit)) (now (triples .exit)) (now (slots .exit)) (now (shares .exit)) in
+        ⌜ Finished len n r before after ⌝ }
 {
     match slot_table(triples, n, slots, shares) {
         Tabled::Filled { base, top, used } => Built::Done {
             region: Region {
                 start: base * 16,
-                end: top * 16,
+                end: region_end(top, len),
             },
             codes: n,
             slots: (top - base) as usize,
@@ -210,7 +236,7 @@ fn finish(
     }
 }
 
-// The code table of a file. Whatever stood in the lent slices, they hold the table and zeros behind it, or zeros alone.
+// The code table of a file. Whatever stood in the lent slices, they hold the table and zeros after it, or zeros alone.
 pub fn parse(
     file: &[u8],
     header: DexHeader,
@@ -219,12 +245,15 @@ pub fn parse(
     slots: &mut [u32],
     shares: &mut [u32],
 ) -> Built
-    ensures { λ r. ⌜ Parsed (now (file .entry)) header (now (starts .entry)) (now (triples .entry)) (now (slots .entry)) (now (shares .entry)) r (now (starts .exit)) (now (triples .exit)) (now (slots .exit)) (now (shares .exit)) ⌝ }
+    ensures gives { λ r.
+        let before = tableWords (now (starts .entry)) (now (triples .entry)) (now (slots .entry)) (now (shares .entry)) in
+        let after = tableWords (now (starts .exit)) (now (triples .exit)) (now (slots .exit)) (now (shares .exit)) in
+        ⌜ GivesBuild (buildOut (now (file .entry)) header (roomOf before)) r before after ⌝ }
 {
     words::clear(slots);
     words::clear(shares);
     match class_data::codes(file, header, triples, starts) {
         Answer::Refused(r) => Built::Refused(r),
-        Answer::Done(n) => finish(n, starts, triples, slots, shares),
+        Answer::Done(n) => finish(file.len(), n, starts, triples, slots, shares),
     }
 }

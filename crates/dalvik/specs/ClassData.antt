@@ -1,5 +1,5 @@
 -- Which methods have code: "Dalvik Executable format", "class_def_item", "class_data_item", "encoded_field format" and
--- "encoded_method format". Where the class data items stand is said as document 01 says it: by the map, else by the class
+-- "encoded_method format". Where the class data items stand is said as in SPEC, Class data: by the map, else by the class
 -- definitions.
 -- Assumes nothing.
 use Prim.Native.Nat.{ℕ, zero, suc, _+_, _*_, _≤_, _<_, _^_}
@@ -43,7 +43,7 @@ pub record ClassData (s : List ℕ) (i : ℕ) (codes : List Code) (e : ℕ) : Ty
   pub virtual : EncodedMethods s virtual-methods-size g 0 in-virtuals e
   pub all : in-directs ++ in-virtuals ≡ codes
 
--- n class data items one behind another, from i on
+-- n class data items one after another, from i on
 pub data Successive (s : List ℕ) : ℕ → ℕ → List Code → Type 0 where
   no-more : {i : ℕ} → Successive s 0 i []
   one-more : {n i e : ℕ} {cs ds : List Code} → ClassData s i cs e → Successive s n e ds → Successive s (suc n) i (cs ++ ds)

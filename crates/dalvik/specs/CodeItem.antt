@@ -1,5 +1,5 @@
 -- The code of a method: "Dalvik Executable format", "code_item". Of its header of 16 bytes the last four are insns_size, the
--- length of the instruction array behind the header, in units of two bytes.
+-- length of the instruction array after the header, in units of two bytes.
 -- Assumes nothing.
 use Prim.Native.Nat.{ℕ, _+_, _*_}
 use mathlib.Core.List.{List}
@@ -17,7 +17,7 @@ pub record Code : Type 0 where
   pub off : ℕ
   pub units : ℕ
 
--- the array's first byte, and the offset behind its last
+-- the array's first byte, and the offset after its last
 abbrev pub start : Code → ℕ
 start c = c .off + headerSize
 

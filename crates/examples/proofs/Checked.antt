@@ -6,19 +6,19 @@ use Rattle.string_data.specs.Text.{stringText, behindLength, textFrom, firstZer
 use Rattle.dalvik.specs.Numbers.{le16, le32}
 use Rattle.groups.specs.Groups.{idsWhere, joined, tabulate}
 use Rattle.groups.specs.Built.{groupsOf}
-use Rattle.group_slice.specs.Stretch.{stretchOf}
+use Rattle.groups.specs.Stretch.{stretchOf}
 use Rattle.words.specs.Padded.{stretch}
 use Rattle.code_table.specs.Slots.{joined as joinedShare, joinedSlot, place, tableOf}
-use Rattle.insn_locator.specs.Listing.{chain, listed, listOut}
-use Rattle.string_search.specs.Keys.{owner}
+use Rattle.slot_listing.specs.Listing.{chain, listed, listOut}
+use Rattle.string_search.specs.Owner.{owner}
 use Rattle.opcodes.specs.Length.{lengthRead, unitsOf}
-use Rattle.index_width.specs.Width.{widthOf}
-use Rattle.index_width.specs.Kinds.{kindOf}
-use Rattle.code_item_scan.specs.Scan.{scanOut, hitsOf, hitsIn, isTried, indexAt}
+use Rattle.kinds.specs.Width.{widthOf}
+use Rattle.kinds.specs.Kinds.{kindOf}
+use Rattle.code_item_scan.specs.Scan.{scanOut, hitsBy, hitsIn, isTried, indexAt}
 use Rattle.examples.specs.Table.{Table}
 
 pub checked : Table
-unfolding ulebFast uleb ulebLen lenOf lengthRead unitsOf stringText behindLength textFrom firstZero zeroOf le16 le32 idsWhere joined tabulate groupsOf stretchOf scanOut kindOf hitsOf hitsIn isTried widthOf indexAt stretch joinedSlot place tableOf chain listed listOut joinedShare owner
+unfolding ulebFast uleb ulebLen lenOf lengthRead unitsOf stringText behindLength textFrom firstZero zeroOf le16 le32 idsWhere joined tabulate groupsOf stretchOf scanOut kindOf hitsBy hitsIn isTried widthOf indexAt stretch joinedSlot place tableOf chain listed listOut joinedShare owner
 checked = record {
   two-bytes = refl;
   five-bytes = refl;

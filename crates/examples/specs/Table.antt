@@ -1,4 +1,4 @@
--- Document 01, "Proved examples": a field for each example, in that order.
+-- SPEC, Worked examples: a field for each example, in that order.
 -- Assumes nothing.
 use Prim.Native.Nat.{ℕ, _+_, _*_, _^_}
 use mathlib.Core.Path.{_≡_}
@@ -9,21 +9,21 @@ use Rattle.leb128.specs.declared.Uleb.the-variants.{Number}
 use Rattle.leb128.specs.declared.Len.the-variants.{Bytes}
 use Rattle.string_data.specs.Text.{stringText, found, none}
 use Rattle.dalvik.specs.Ids.{type-descriptor-idx}
-use Rattle.groups.specs.Built.{Groups, groupsOf}
-use Rattle.group_slice.specs.Stretch.{stretchOf}
+use Rattle.groups.specs.Built.{GroupWords, groupsOf}
+use Rattle.groups.specs.Stretch.{stretchOf}
 use Rattle.dalvik.specs.CodeItem.{Code}
 use Rattle.refusal.specs.Outcomes.{success}
 use Rattle.code_table.specs.Slots.{tableOf}
-use Rattle.insn_locator.specs.Listing.{listOut}
-use Rattle.string_search.specs.Keys.{owner}
+use Rattle.slot_listing.specs.Listing.{listOut}
+use Rattle.string_search.specs.Owner.{owner}
 use Rattle.string_search.specs.declared.Owner.the-variants.{Entry, Absent}
 use Rattle.opcodes.specs.Length.{lengthRead}
 use Rattle.opcodes.specs.declared.Length.the-variants.{Units, Nothing}
-use Rattle.code_item_scan.specs.Scan.{Scan, scanOut}
+use Rattle.code_item_scan.specs.Scan.{Scan, asked, hitRoom, scanOut}
 
 -- the scan of a region alone for index 5, with room for one hit
 abbrev scanned : List ℕ → ℕ → Scan
-scanned s kind = scanOut s kind (5 ∷ []) 0 (length s) 1 1
+scanned s kind = scanOut s (asked kind (5 ∷ []) 0 (length s)) (hitRoom 1 1)
 
 abbrev no-hit : Scan
 no-hit = record { number = 0; hits = [] }
@@ -35,7 +35,7 @@ hit-at p = record { number = 0; hits = record { off = p; mark = 5 } ∷ [] }
 abbrev pub typeIds : List ℕ
 typeIds = 1 ∷ 0 ∷ 0 ∷ 0 ∷ 3 ∷ 0 ∷ 0 ∷ 0 ∷ 1 ∷ 0 ∷ 0 ∷ 0 ∷ 7 ∷ 0 ∷ 0 ∷ 0 ∷ []
 
-abbrev pub typeGroups : Groups
+abbrev pub typeGroups : GroupWords
 typeGroups = groupsOf (type-descriptor-idx typeIds 0) 4 3
 
 abbrev pub typesOf : ℕ → List ℕ
@@ -55,7 +55,7 @@ pub record Table : Type 0 where
   pub five-bytes : ulebFast (0xff ∷ 0xff ∷ 0xff ∷ 0xff ∷ 0x7f ∷ []) 0 ≡ Number 34359738367 5
   -- the length of 80 80 80 80 80 00 is 6
   pub six-bytes : ulebLen (0x80 ∷ 0x80 ∷ 0x80 ∷ 0x80 ∷ 0x80 ∷ 0x00 ∷ []) 0 ≡ Bytes 6
-  -- length ff ff ff ff 0f with a zero behind is the empty string; 10 for 0f is refused
+  -- length ff ff ff ff 0f with a zero after is the empty string; 10 for 0f is refused
   pub longest-length : stringText (0xff ∷ 0xff ∷ 0xff ∷ 0xff ∷ 0x0f ∷ 0x00 ∷ []) 0 ≡ found 5 0
   pub length-overflow : stringText (0xff ∷ 0xff ∷ 0xff ∷ 0xff ∷ 0x10 ∷ 0x00 ∷ []) 0 ≡ none 10
   -- three strings, type ids 1, 3, 1, 7: group 1 is 0, 2, the rest empty

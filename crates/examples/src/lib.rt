@@ -1,1 +1,1 @@
-// Document 01's worked examples as one checked table of theorems: specs/Table.antt states them, proofs/Checked.antt computes them.
+// The worked examples of SPEC as one checked table of theorems: specs/Table.antt states them, proofs/Checked.antt computes them.

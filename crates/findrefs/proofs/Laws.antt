@@ -1,16 +1,17 @@
 -- Each way out of the finder leaves what its outcome says: a refusal's number is never 0, so that the outcome takes the same branch.
 -- Assumes nothing.
-use Prim.Native.Nat.{ℕ, _-_, _*_}
+use Prim.Native.Nat.{ℕ, _-_, _*_, _/_}
 use native.Mathlib.Omega.{arith}
 use mathlib.Core.Path.{_≡_, refl, sym, ap, _∙_}
+use mathlib.Core.Logic.{⊎-elim}
+use mathlib.Core.Bool.{true, false, _&&_}
 use mathlib.Core.List.{List, []}
 use lib.ListN.{length, take}
-use lib.Dec.{leb}
-use mathlib.Core.Bool.{_&&_}
-use borrow.Author.Tests.{eq-eqb, ne-eqb}
+use lib.Dec.{leb, eqb}
+use borrow.Author.Tests.{eq-eqb, ne-eqb, eqb-true}
 use Rattle.words.specs.Padded.{zeros, padded}
 use Rattle.words.proofs.Padded.{padded-none}
-use Rattle.words.proofs.Shared.{cond-elim}
+use Rattle.words.proofs.Shared.{case, cond-elim}
 use Rattle.refusal.proofs.Numbers.{some-number}
 use Rattle.refusal.specs.Refusals.{tooLarge}
 use Rattle.refusal.specs.declared.Refusal.{Refusal}
@@ -22,175 +23,196 @@ use Rattle.class_data.specs.Walk.Walk.{refused, found as codes-found}
 use Rattle.class_data.specs.Codes.{codesOf}
 use Rattle.code_table.specs.Slots.{baseOf, topOf, tableOf}
 use Rattle.code_table.specs.Build.{mostShares, Room, Build, noBuild, wholeBuild, builtFrom, buildOut}
-use Rattle.code_table.specs.Answer.{GivesBuild}
+use Rattle.code_table.specs.Answer.{TableWords, roomOf, GivesBuild}
 use Rattle.code_table.specs.declared.Region.{Region}
 use Rattle.code_table.specs.declared.Built.{Built}
 use Rattle.code_table.specs.declared.Built.the-variants as b
-use Rattle.code_item_scan.specs.Scan.{offs, marks}
-use Rattle.scan_locate.specs.Search.{searchOut, searchBehind}
-use Rattle.scan_locate.specs.Gives.{GivesSearch, Cleared}
-use Rattle.scan_locate.proofs.Laws.{take-padded}
-use Rattle.demand.proofs.Starts.{startsOf-length}
-use Rattle.findrefs.specs.Find.{Lengths, found, searchOf, findOut}
-use Rattle.findrefs.specs.Gives.{GivesFind, foundOf, builtLeft, Keeps}
+use Rattle.code_item_scan.specs.Scan.{offs, marks, asked}
+use Rattle.code_item_scan.specs.Answers.{hitRoomOf}
+use Rattle.insn_locator.specs.Answers.{tables}
+use Rattle.completeness.specs.Completeness.{FindWords, findWords}
+use Rattle.completeness.proofs.Starts.{startsOf-length}
+use Rattle.findrefs.specs.Find.{Lengths, lengthsOf, Search, searchOut, Find, found, searchOf, findOut}
+use Rattle.findrefs.specs.Gives.{GivesFind}
+use Rattle.findrefs.specs.Steps.{four, Cleared, searchWords, GivesSearch, FoundIn}
 use Rattle.findrefs.specs.declared.Found.{Found}
 use Rattle.findrefs.specs.declared.Found.the-variants as r
+use Rattle.findrefs.proofs.Searched.{take-padded}
 
--- ---- what is kept of the build
-module _ {p : Built} (q : Answer) (zs ts xs ws : List ℕ) where
-  pub keeps-unbuilt : (x : Refusal) → p ≡ b.Refused x → Keeps p q (r.Refused x) zs ts xs ws zs ts xs ws
-  unfolding foundOf builtLeft
-  keeps-unbuilt x e = rw e (record { found = refl; starts = refl; triples = refl; slots = refl; shares = refl })
+-- ---- the search over a build
+module _ (o : Search) (g : Region) (before after : FindWords) where
+  pub in-found : {q : Answer} (n : ℕ) → q ≡ a.Done n → after .table ≡ before .table
+      → GivesSearch o q (searchWords (before .hits) (before .located)) (searchWords (after .hits) (after .located))
+      → FoundIn o g (r.Done g n) before after
+  in-found {q} n e t G =
+      let S : GivesSearch o (a.Done n) (searchWords (before .hits) (before .located)) (searchWords (after .hits) (after .located)) = rw e at G in
+      let z : eqb (o .number) 0 ≡ true = eq-eqb (o .number) 0 (sym (S .number)) in
+      record {
+        number = S .number;
+        region = rw z;
+        count = S .count;
+        starts = rw z (ap (λ (w : TableWords). w .starts) t);
+        triples = rw z (ap (λ (w : TableWords). w .triples) t);
+        slots = rw z (ap (λ (w : TableWords). w .slots) t);
+        shares = rw z (ap (λ (w : TableWords). w .shares) t);
+        offs = S .offs;
+        marks = S .marks;
+        further = S .further;
+        answers = S .answers;
+      }
 
-  module _ (g : Region) (c n k : ℕ) (e : p ≡ b.Done g c n k) where
-    pub keeps-found : (d : ℕ) → q ≡ a.Done d → Keeps p q (r.Done g d) zs ts xs ws zs ts xs ws
-    unfolding foundOf builtLeft
-    keeps-found d f = rw (e, f) (record { found = refl; starts = refl; triples = refl; slots = refl; shares = refl })
-
-    pub keeps-unfound : (zs′ ts′ xs′ ws′ : List ℕ) (x : Refusal) → q ≡ a.Refused x → Cleared zs ts xs ws zs′ ts′ xs′ ws′
-        → Keeps p q (r.Refused x) zs ts xs ws zs′ ts′ xs′ ws′
-    unfolding foundOf builtLeft
-    keeps-unfound zs′ ts′ xs′ ws′ x f C = rw (e, f) (record { found = refl; starts = C .first; triples = C .second; slots = C .third; shares = C .fourth })
+  pub in-refused : {q : Answer} (x : Refusal) → q ≡ a.Refused x
+      → GivesSearch o q (searchWords (before .hits) (before .located)) (searchWords (after .hits) (after .located))
+      → Cleared (four (before .table .starts) (before .table .triples) (before .table .slots) (before .table .shares))
+      (four (after .table .starts) (after .table .triples) (after .table .slots) (after .table .shares))
+      → FoundIn o g (r.Refused x) before after
+  in-refused {q} x e G C =
+      let S : GivesSearch o (a.Refused x) (searchWords (before .hits) (before .located)) (searchWords (after .hits) (after .located)) = rw e at G in
+      let z : eqb (o .number) 0 ≡ false = ne-eqb (o .number) 0 (λ w. some-number x (S .number ∙ w)) in
+      record {
+        number = S .number;
+        region = rw z;
+        count = S .count;
+        starts = rw z (C .first);
+        triples = rw z (C .second);
+        slots = rw z (C .third);
+        shares = rw z (C .fourth);
+        offs = S .offs;
+        marks = S .marks;
+        further = S .further;
+        answers = S .answers;
+      }
 
 -- ---- a build that succeeds has a start word for each method
 abbrev StartEach : ℕ → Build → Type 0
 StartEach m B = B .number ≡ 0 → length (B .starts) ≡ m
 
-start-each : (m : ℕ) (room : Room) (x : Walk) → StartEach m (builtFrom m room x)
-start-each m room (refused r) = λ e. absurd (some-number r e)
-start-each m room (codes-found cs n) =
+start-each : (len m : ℕ) (room : Room) (x : Walk) → StartEach m (builtFrom len m room x)
+start-each len m room (refused r) = λ e. absurd (some-number r e)
+start-each len m room (codes-found cs n) =
     cond-elim (StartEach m)
     (leb (3 * length cs) (room .triples) && leb (topOf cs - baseOf cs) (room .slots) && leb (length (tableOf cs .shares)) (room .shares)
     && leb (length (tableOf cs .shares)) mostShares)
-    (wholeBuild m cs) (noBuild 4) (λ _ e. startsOf-length m cs) (λ _ e. absurd (omega arith))
+    (wholeBuild len m cs) (noBuild 4) (λ _ e. startsOf-length m cs) (λ _ e. absurd (omega arith))
 
 pub built-starts : (s : List ℕ) (h : DexHeader) (room : Room) → StartEach (h .methods .size) (buildOut s h room)
 unfolding buildOut
 built-starts s h room =
     cond-elim (StartEach (h .methods .size)) (tooLarge (length s)) (noBuild 1) _ (λ _ e. absurd (omega arith))
-    (λ _. cond-elim (StartEach (h .methods .size)) (leb (h .methods .size) (room .starts)) (builtFrom (h .methods .size) room (codesOf s h)) (noBuild 4)
-    (λ _. start-each (h .methods .size) room (codesOf s h)) (λ _ e. absurd (omega arith)))
+    (λ _. cond-elim (StartEach (h .methods .size)) (leb (h .methods .size) (room .starts)) (builtFrom (length s) (h .methods .size) room (codesOf s h)) (noBuild 4)
+    (λ _. start-each (length s) (h .methods .size) room (codesOf s h)) (λ _ e. absurd (omega arith)))
+
+-- ---- what is cleared is as long as before
+pub record SameRoom (t u : TableWords) : Type 0 where
+  pub starts : length (t .starts) ≡ length (u .starts)
+  pub triples : length (t .triples) ≡ length (u .triples)
+  pub slots : length (t .slots) ≡ length (u .slots)
+  pub shares : length (t .shares) ≡ length (u .shares)
+
+nothing-left : {ws : List ℕ} (n m : ℕ) → ws ≡ zeros n → n ≡ m → ws ≡ padded m []
+nothing-left n m e l = e ∙ (ap zeros l ∙ sym (padded-none m))
 
 -- ---- build, scan and locate
-module _ (s : List ℕ) (h : DexHeader) (kind : ℕ) (wanted : List ℕ) (L : Lengths) where
-  abbrev buildOf : Build
-  buildOf = buildOut s h (L .build)
+module _ (s : List ℕ) (h : DexHeader) (kind : ℕ) (wanted : List ℕ) (before : FindWords) where
+  abbrev L : Lengths
+  L = lengthsOf before
 
-  find-none : (buildOf .number ≡ 0 → ⊥) → findOut s h kind wanted L ≡ record { number = buildOf .number; build = buildOf; hits = []; answers = [] }
+  abbrev buildOf : Build
+  buildOf = buildOut s h (roomOf (before .table))
+
+  abbrev goal : Find
+  goal = findOut s h kind wanted L
+
+  find-none : (buildOf .number ≡ 0 → ⊥) → goal ≡ record { number = buildOf .number; build = buildOf; hits = []; answers = [] }
   unfolding findOut
   find-none n = rw (ne-eqb (buildOf .number) 0 n)
 
-  find-some : buildOf .number ≡ 0 → findOut s h kind wanted L ≡ found buildOf (searchOf s kind wanted L buildOf)
+  pub find-some : buildOf .number ≡ 0 → goal ≡ found buildOf (searchOf s kind wanted L buildOf)
   unfolding findOut
   find-some e = rw (eq-eqb (buildOf .number) 0 e)
 
-  find-unbuilt : {q : Built} (x : Refusal) (zs ts xs ws os ms fs as′ : List ℕ) → q ≡ b.Refused x → GivesBuild buildOf (L .build) q zs ts xs ws
-      → os ≡ zeros (L .offs) → ms ≡ zeros (L .marks) → fs ≡ zeros (L .further) → as′ ≡ zeros (L .answers)
-      → GivesFind (findOut s h kind wanted L) L (r.Refused x) zs ts xs ws os ms fs as′
-  find-unbuilt x zs ts xs ws os ms fs as′ e G o m f z =
-      let B : GivesBuild buildOf (L .build) (b.Refused x) zs ts xs ws = rw e at G in
+  -- the build refused, and the other words were cleared
+  pub find-unbuilt : {q : Built} (x : Refusal) (after : FindWords) → q ≡ b.Refused x → GivesBuild buildOf q (before .table) (after .table)
+      → Cleared (four (before .hits .offs) (before .hits .marks) (before .located .further) (before .located .answers))
+      (four (after .hits .offs) (after .hits .marks) (after .located .further) (after .located .answers))
+      → GivesFind goal (r.Refused x) before after
+  find-unbuilt x after e G C =
+      let B : GivesBuild buildOf (b.Refused x) (before .table) (after .table) = rw e at G in
       rw (find-none (λ w. some-number x (B .number ∙ w)))
       (record {
         number = B .number;
         from = B .from;
         to = B .to;
-        hits = refl;
+        count = refl;
         starts = B .starts;
         triples = B .triples;
         slots = B .slots;
         shares = B .shares;
-        offsets = o ∙ sym (padded-none (L .offs));
-        indices = m ∙ sym (padded-none (L .marks));
-        further = f;
-        answers = z ∙ sym (padded-none (L .answers));
+        offs = C .first ∙ sym (padded-none (length (before .hits .offs)));
+        marks = C .second ∙ sym (padded-none (length (before .hits .marks)));
+        further = C .third;
+        answers = C .fourth ∙ sym (padded-none (length (before .located .answers)));
       })
 
-  -- the build succeeded with the region g; the search over what it left answers q
-  module _ (p : Built) (g : Region) (c n k : ℕ) (zs ts xs ws : List ℕ) (e : p ≡ b.Done g c n k) (G : GivesBuild buildOf (L .build) p zs ts xs ws) where
-    B : GivesBuild buildOf (L .build) (b.Done g c n k) zs ts xs ws
+  -- the build succeeded with the region g and left the table t, and the search over it answers
+  module _ {p : Built} (g : Region) (c n k : ℕ) (t : TableWords) (e : p ≡ b.Done g c n k) (G : GivesBuild buildOf p (before .table) t) where
+    B : GivesBuild buildOf (b.Done g c n k) (before .table) t
     B = rw e at G
 
-    passed-is : take (h .methods .size) zs ≡ buildOf .starts
+    abbrev S : Search
+    S = searchOf s kind wanted L buildOf
+
+    passed-is : take (h .methods .size) (t .starts) ≡ buildOf .starts
     passed-is =
         ap (take (h .methods .size)) (B .starts)
-        ∙ take-padded (L .build .starts) (h .methods .size) (buildOf .starts) (sym (built-starts s h (L .build) (sym (B .number))))
+        ∙ take-padded (length (before .table .starts)) (h .methods .size) (buildOf .starts)
+        (sym (built-starts s h (roomOf (before .table)) (sym (B .number))))
 
-    searched-is : searchOut s kind wanted (g .start) (g .end) xs (take (h .methods .size) zs) ws (L .offs) (L .marks) (L .further) (L .answers)
-        ≡ searchOf s kind wanted L buildOf
+    searched-is : searchOut s (asked kind wanted (g .start) (g .end)) (tables (g .start / 16) (t .slots) (take (h .methods .size) (t .starts)) (t .shares))
+        (L .hits) (L .further) (L .answers) ≡ S
     searched-is = rw (B .from, B .to, B .slots, passed-is, B .shares)
 
-    module _ (os₀ ms₀ fs₀ as₀ os ms fs as′ : List ℕ) (lo : length os₀ ≡ L .offs) (lm : length ms₀ ≡ L .marks) (lf : length fs₀ ≡ L .further)
-        (la : length as₀ ≡ L .answers) where
-      as-search : (q : Answer)
-          → GivesSearch (searchOut s kind wanted (g .start) (g .end) xs (take (h .methods .size) zs) ws (length os₀) (length ms₀) (length fs₀) (length as₀)) q os₀ ms₀ fs₀ as₀ os ms fs as′
-          → GivesSearch (searchOf s kind wanted L buildOf) q os₀ ms₀ fs₀ as₀ os ms fs as′
-      as-search q R = rw (lo, lm, lf, la, searched-is) at R
+    by-number : (r : Found) (after : FindWords) → SameRoom t (before .table)
+        → FoundIn S g r (findWords t (before .hits) (before .located)) after → GivesFind goal r before after
+    by-number r after M F =
+        ⊎-elim
+        (λ (z : eqb (S .number) 0 ≡ true).
+        rw (find-some (sym (B .number)), z)
+        (record {
+          number = F .number ∙ eqb-true (S .number) 0 z;
+          from = ap (λ (x : Region). x .start) (rw z at (F .region)) ∙ B .from;
+          to = ap (λ (x : Region). x .end) (rw z at (F .region)) ∙ B .to;
+          count = F .count;
+          starts = (rw z at (F .starts)) ∙ B .starts;
+          triples = (rw z at (F .triples)) ∙ B .triples;
+          slots = (rw z at (F .slots)) ∙ B .slots;
+          shares = (rw z at (F .shares)) ∙ B .shares;
+          offs = F .offs;
+          marks = F .marks;
+          further = F .further;
+          answers = F .answers;
+        }))
+        (λ (z : eqb (S .number) 0 ≡ false).
+        rw (find-some (sym (B .number)), z)
+        (record {
+          number = F .number;
+          from = ap (λ (x : Region). x .start) (rw z at (F .region));
+          to = ap (λ (x : Region). x .end) (rw z at (F .region));
+          count = F .count;
+          starts = nothing-left (length (t .starts)) (length (before .table .starts)) (rw z at (F .starts)) (M .starts);
+          triples = nothing-left (length (t .triples)) (length (before .table .triples)) (rw z at (F .triples)) (M .triples);
+          slots = nothing-left (length (t .slots)) (length (before .table .slots)) (rw z at (F .slots)) (M .slots);
+          shares = nothing-left (length (t .shares)) (length (before .table .shares)) (rw z at (F .shares)) (M .shares);
+          offs = F .offs;
+          marks = F .marks;
+          further = F .further;
+          answers = F .answers;
+        }))
+        (case (eqb (S .number) 0))
 
-      find-found : {q : Answer} (d : ℕ) → q ≡ a.Done d
-          → GivesSearch (searchOut s kind wanted (g .start) (g .end) xs (take (h .methods .size) zs) ws (length os₀) (length ms₀) (length fs₀) (length as₀)) q os₀ ms₀ fs₀ as₀ os ms fs as′
-          → GivesFind (findOut s h kind wanted L) L (r.Done g d) zs ts xs ws os ms fs as′
-      find-found {q} d w R =
-          let T : GivesSearch (searchOf s kind wanted L buildOf) (a.Done d) os₀ ms₀ fs₀ as₀ os ms fs as′ = rw w at (as-search q R) in
-          rw (find-some (sym (B .number)), eq-eqb (searchOf s kind wanted L buildOf .number) 0 (sym (T .number)))
-          (record {
-            number = refl;
-            from = B .from;
-            to = B .to;
-            hits = T .count;
-            starts = B .starts;
-            triples = B .triples;
-            slots = B .slots;
-            shares = B .shares;
-            offsets = T .offsets ∙ ap (λ (i : ℕ). padded i (offs (searchOf s kind wanted L buildOf .hits))) lo;
-            indices = T .indices ∙ ap (λ (i : ℕ). padded i (marks (searchOf s kind wanted L buildOf .hits))) lm;
-            further = T .further ∙ ap zeros lf;
-            answers = T .answers ∙ ap (λ (i : ℕ). padded i (searchOf s kind wanted L buildOf .answers)) la;
-          })
-
-      find-unfound : {q : Answer} (x : Refusal) (zs′ ts′ xs′ ws′ : List ℕ) → q ≡ a.Refused x
-          → GivesSearch (searchOut s kind wanted (g .start) (g .end) xs (take (h .methods .size) zs) ws (length os₀) (length ms₀) (length fs₀) (length as₀)) q os₀ ms₀ fs₀ as₀ os ms fs as′
-          → zs′ ≡ zeros (L .build .starts) → ts′ ≡ zeros (L .build .triples) → xs′ ≡ zeros (L .build .slots) → ws′ ≡ zeros (L .build .shares)
-          → GivesFind (findOut s h kind wanted L) L (r.Refused x) zs′ ts′ xs′ ws′ os ms fs as′
-      find-unfound {q} x zs′ ts′ xs′ ws′ w R z t y v =
-          let T : GivesSearch (searchOf s kind wanted L buildOf) (a.Refused x) os₀ ms₀ fs₀ as₀ os ms fs as′ = rw w at (as-search q R) in
-          rw (find-some (sym (B .number)), ne-eqb (searchOf s kind wanted L buildOf .number) 0 (λ i. some-number x (T .number ∙ i)))
-          (record {
-            number = T .number;
-            from = refl;
-            to = refl;
-            hits = T .count;
-            starts = z ∙ sym (padded-none (L .build .starts));
-            triples = t ∙ sym (padded-none (L .build .triples));
-            slots = y ∙ sym (padded-none (L .build .slots));
-            shares = v ∙ sym (padded-none (L .build .shares));
-            offsets = T .offsets ∙ ap (λ (i : ℕ). padded i (offs (searchOf s kind wanted L buildOf .hits))) lo;
-            indices = T .indices ∙ ap (λ (i : ℕ). padded i (marks (searchOf s kind wanted L buildOf .hits))) lm;
-            further = T .further ∙ ap zeros lf;
-            answers = T .answers ∙ ap (λ (i : ℕ). padded i (searchOf s kind wanted L buildOf .answers)) la;
-          })
-
-  -- the finder as it runs: the build answers p, the search behind it q, and r is what the two leave
-  module _ (p : Built) (q : Answer) (r : Found) (zs ts xs ws zs′ ts′ xs′ ws′ os₀ ms₀ fs₀ as₀ os ms fs as′ : List ℕ)
-      (lz : length zs ≡ L .build .starts) (lt : length ts ≡ L .build .triples) (lx : length xs ≡ L .build .slots) (lw : length ws ≡ L .build .shares)
-      (lo : length os₀ ≡ L .offs) (lm : length ms₀ ≡ L .marks) (lf : length fs₀ ≡ L .further) (la : length as₀ ≡ L .answers) where
-    by-answers : (p : Built) (q : Answer) → GivesBuild buildOf (L .build) p zs ts xs ws
-        → GivesSearch (searchBehind p (h .methods .size) s kind wanted xs zs ws (length os₀) (length ms₀) (length fs₀) (length as₀)) q os₀ ms₀ fs₀ as₀ os ms fs as′
-        → GivesFind (findOut s h kind wanted L) L (foundOf p q) (builtLeft p q zs) (builtLeft p q ts) (builtLeft p q xs) (builtLeft p q ws) os ms fs as′
-    unfolding searchBehind foundOf builtLeft
-    by-answers (b.Done g c n k) (a.Done d) G R =
-        find-found (b.Done g c n k) g c n k zs ts xs ws refl G os₀ ms₀ fs₀ as₀ os ms fs as′ lo lm lf la d refl R
-    by-answers (b.Done g c n k) (a.Refused x) G R =
-        find-unfound (b.Done g c n k) g c n k zs ts xs ws refl G os₀ ms₀ fs₀ as₀ os ms fs as′ lo lm lf la x (zeros (length zs)) (zeros (length ts)) (zeros (length xs)) (zeros (length ws)) refl R
-        (ap zeros lz) (ap zeros lt) (ap zeros lx) (ap zeros lw)
-    by-answers (b.Refused x) q G R =
-        find-unbuilt x zs ts xs ws os ms fs as′ refl G
-        (R .offsets ∙ (padded-none (length os₀) ∙ ap zeros lo))
-        (R .indices ∙ (padded-none (length ms₀) ∙ ap zeros lm))
-        (R .further ∙ ap zeros lf)
-        (R .answers ∙ (padded-none (length as₀) ∙ ap zeros la))
-
-    pub find-gives : GivesBuild buildOf (L .build) p zs ts xs ws
-        → GivesSearch (searchBehind p (h .methods .size) s kind wanted xs zs ws (length os₀) (length ms₀) (length fs₀) (length as₀)) q os₀ ms₀ fs₀ as₀ os ms fs as′
-        → Keeps p q r zs ts xs ws zs′ ts′ xs′ ws′
-        → GivesFind (findOut s h kind wanted L) L r zs′ ts′ xs′ ws′ os ms fs as′
-    find-gives G R K = rw (K .found, K .starts, K .triples, K .slots, K .shares) (by-answers p q G R)
+    pub find-built : (r : Found) (after : FindWords) → SameRoom t (before .table)
+        → FoundIn (searchOut s (asked kind wanted (g .start) (g .end))
+        (tables (g .start / 16) (t .slots) (take (h .methods .size) (t .starts)) (t .shares)) (hitRoomOf (before .hits)) (L .further) (L .answers))
+        g r (findWords t (before .hits) (before .located)) after
+        → GivesFind goal r before after
+    find-built r after M F = by-number r after M (rw searched-is at F)

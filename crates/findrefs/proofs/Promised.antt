@@ -1,137 +1,167 @@
--- The promise follows from what the finder gives and from demand 3 on the outcomes: the words in the lent slices are the outcomes' lists,
--- and zeros behind them are never an entry.
+-- The promise follows from what the finder gives. Where its outcome is not 4 each lent slice holds what is written to it, so that build, scan
+-- and locate succeed as demand 3 says of their outcomes; and the words in the lent slices are the outcomes' lists. With slices that are
+-- enough each holds what is written to it, and so the outcome is not 4.
 -- Assumes nothing.
-use Prim.Native.Nat.{ℕ, zero, suc, _/_, _<_}
+use Prim.Native.Nat.{ℕ, _/_}
 use native.Mathlib.Omega.{arith}
 use mathlib.Core.Path.{_≡_, refl, sym, ap, subst, _∙_}
-use mathlib.Core.List.{List, [], _∷_, map, List·Memᴰ}
+use mathlib.Core.Logic.{_≢_, ⊎-elim}
+use mathlib.Core.Bool.{true, false}
+use mathlib.Core.List.{List}
 use lib.ListN.{length, getD}
 use lib.Dec.{eqb}
-use borrow.Author.Tests.{eq-eqb}
+use borrow.Author.Tests.{eq-eqb, eqb-true, eqb-false}
 use Rattle.words.specs.Padded.{padded}
 use Rattle.words.proofs.Padded.{padded-at, padded-full}
+use Rattle.words.proofs.Shared.{case}
 use Rattle.refusal.specs.Outcomes.{Outcome}
 use Rattle.tinydex.specs.declared.DexHeader.{DexHeader}
 use Rattle.dalvik.specs.CodeItem.{Code}
 use Rattle.dalvik.specs.Instructions.{Kind}
-use Rattle.code_table.specs.Build.{Build, buildOut}
-use Rattle.index_width.specs.Kinds.{kindNumber}
-use Rattle.code_item_scan.specs.Scan.{Hit, offs, marks, Scan, scanOut}
+use Rattle.code_table.specs.Build.{Build, wholeBuild, buildOut}
+use Rattle.kinds.specs.Kinds.{kindNumber}
+use Rattle.code_item_scan.specs.Scan.{Hit, offs, marks, Scan, asked, scanOut}
 use Rattle.insn_locator.specs.Locate.{locateOut}
 use Rattle.insn_locator.specs.Answers.{tables}
-use Rattle.insn_locator.specs.Listing.{listOut}
-use Rattle.demand.specs.Supposed.{Supposed}
-use Rattle.demand.specs.Statement.{Lent, Suffices, Confirmed, Rising, Shown, Lies, NamesWanted, Finds, FindsAll, builtOf, scannedOf, locatedOf, listingOf}
-use Rattle.demand.proofs.Demand.{demand3}
-use Rattle.scan_locate.specs.Search.{searched, searchOut}
+use Rattle.completeness.specs.Completeness.{Supposed, FindWords, Enough, Delivers, Call, callOf, Kept, Demand3}
+use Rattle.completeness.proofs.Outcomes.{Lent, Ran, ranOf, builtOf, scannedOf, locatedOf, entriesOf, HoldsTable, Suffices, Finds}
+use Rattle.completeness.proofs.Demand.{build-is, scan-is, over-outcomes}
+use Rattle.completeness.proofs.Words.{Holds, delivers}
+use Rattle.completeness.proofs.Room.{build-holds, scan-holds, locate-holds}
+use Rattle.completeness.proofs.Enough.{lentOf, enough-suffices}
 use Rattle.findrefs.proofs.Laws.{built-starts}
-use Rattle.findrefs.specs.Find.{Lengths, Find, found, searchOf, findOut}
-use Rattle.findrefs.specs.Gives.{foundNumber, foundHits, GivesFind}
-use Rattle.findrefs.specs.Promise.{lentOf, ConfirmedEntry, Shows, Delivers, Promise}
+use Rattle.findrefs.specs.Find.{Lengths, lengthsOf, Search, searched, searchOut, Find, found, searchOf, builtTables, findOut}
+use Rattle.findrefs.specs.Gives.{foundNumber, foundHits, replyOf, GivesFind}
 use Rattle.findrefs.specs.declared.Found.{Found}
 
-abbrev noHit : Hit
-noHit = record { off = 0; mark = 0 }
+-- ---- an outcome's number is that of the operation that refuses
+searched-number : (hits : List Hit) (A : Outcome) → searched hits A .number ≡ A .number
+searched-number hits A =
+    ⊎-elim (λ (e : eqb (A .number) 0 ≡ true). rw e (sym (eqb-true (A .number) 0 e))) (λ (e : eqb (A .number) 0 ≡ false). rw e) (case (eqb (A .number) 0))
 
--- word k of the offsets and of the indices is that of hit k
-off-at : (hs : List Hit) (k : ℕ) → getD (offs hs) k 0 ≡ getD hs k noHit .off
-off-at [] k = refl
-off-at (h ∷ hs) zero = refl
-off-at (h ∷ hs) (suc k) = off-at hs k
+pub found-number : (B : Build) (R : Search) → found B R .number ≡ R .number
+found-number B R =
+    ⊎-elim (λ (e : eqb (R .number) 0 ≡ true). rw e (sym (eqb-true (R .number) 0 e))) (λ (e : eqb (R .number) 0 ≡ false). rw e) (case (eqb (R .number) 0))
 
-mark-at : (hs : List Hit) (k : ℕ) → getD (marks hs) k 0 ≡ getD hs k noHit .mark
-mark-at [] k = refl
-mark-at (h ∷ hs) zero = refl
-mark-at (h ∷ hs) (suc k) = mark-at hs k
+module _ (s : List ℕ) (h : DexHeader) (kind : Kind) (wanted : List ℕ) (w : FindWords) where
+  abbrev m : ℕ
+  m = h .methods .size
 
-hit-is : (x : Hit) (o m : ℕ) → x .off ≡ o → x .mark ≡ m → x ≡ record { off = o; mark = m }
-hit-is x o m p q = rw (← p, ← q)
+  abbrev L : Lengths
+  L = lengthsOf w
 
-length-offs : (hs : List Hit) → length (offs hs) ≡ length hs
-length-offs [] = refl
-length-offs (h ∷ hs) = ap suc (length-offs hs)
+  abbrev R : Ran
+  R = ranOf s h kind wanted (lentOf m w)
 
--- the three steps succeed: the finder's outcome is theirs
-module _ (s : List ℕ) (h : DexHeader) (kind : Kind) (wanted : List ℕ) (L : Lengths) (list : ℕ) where
-  abbrev B : Build
-  B = builtOf s h (lentOf (h .methods .size) L list)
-
-  abbrev C : Scan
-  C = scannedOf s kind wanted (lentOf (h .methods .size) L list) B
-
-  abbrev A : Outcome
-  A = locatedOf s (lentOf (h .methods .size) L list) B C
+  abbrev goal : Find
+  goal = findOut s h (kindNumber kind) wanted L
 
   -- the start words that are passed on are the build's
-  located-is : B .number ≡ 0
-      → locateOut s (tables (B .from / 16) (padded (L .build .slots) (B .slots)) (B .starts) (padded (L .build .shares) (B .shares)))
-      (offs (C .hits)) (L .answers) (L .further)
-      ≡ A
+  located-is : R .build .number ≡ 0 → locateOut s (builtTables (R .build) L) (offs (R .scan .hits)) (L .answers) (L .further) ≡ R .located
   located-is p =
       ap
       (λ (zs : List ℕ).
-      locateOut s (tables (B .from / 16) (padded (L .build .slots) (B .slots)) zs (padded (L .build .shares) (B .shares))) (offs (C .hits)) (L .answers)
-      (L .further))
-      (sym (padded-full (h .methods .size) (B .starts) (built-starts s h (L .build) p)))
+      locateOut s
+      (tables (R .build .from / 16) (padded (L .build .slots) (R .build .slots)) zs (padded (L .build .shares) (R .build .shares)))
+      (offs (R .scan .hits)) (L .answers) (L .further))
+      (sym (padded-full m (R .build .starts) (built-starts s h (L .build) p)))
 
-  pub all-is : B .number ≡ 0 → C .number ≡ 0 → A .number ≡ 0
-      → findOut s h (kindNumber kind) wanted L ≡ record { number = 0; build = B; hits = C .hits; answers = A .list }
-  unfolding findOut searchOut
-  all-is p q t = rw (eq-eqb (B .number) 0 p, eq-eqb (C .number) 0 q, located-is p, eq-eqb (A .number) 0 t)
+  -- the build refuses
+  number-unbuilt : R .build .number ≢ 0 → goal .number ≡ R .build .number
+  unfolding findOut
+  number-unbuilt n =
+      ⊎-elim
+      (λ (e : eqb (R .build .number) 0 ≡ true). absurd (n (eqb-true (R .build .number) 0 e)))
+      (λ (e : eqb (R .build .number) 0 ≡ false). rw e)
+      (case (eqb (R .build .number) 0))
 
-  module _ (codes : List Code) (r : Found) (zs ts xs ws os ms fs as′ : List ℕ) (F : FindsAll s codes kind wanted (lentOf (h .methods .size) L list) B)
-      (G : GivesFind (record { number = 0; build = B; hits = C .hits; answers = A .list }) L r zs ts xs ws os ms fs as′) where
-    entry-of : (k off index slot : ℕ) → Confirmed (C .hits) (A .list) k off index slot → ConfirmedEntry (foundHits r) os ms as′ k off index slot
-    entry-of k off index slot c = record {
-      in-list = rw (G .hits) (c .in-list);
-      offset = rw (G .offsets) (padded-at (L .offs) (offs (C .hits)) k ∙ (off-at (C .hits) k ∙ ap (λ (x : Hit). x .off) (c .entry)));
-      mark = rw (G .indices) (padded-at (L .marks) (marks (C .hits)) k ∙ (mark-at (C .hits) k ∙ ap (λ (x : Hit). x .mark) (c .entry)));
-      answer = rw (G .answers) (padded-at (L .answers) (A .list) k ∙ c .answer);
-      confirmed = c .confirmed;
-    }
+  -- it succeeds, and the search's number is the finder's
+  built-is : R .build .number ≡ 0 → goal ≡ found (R .build) (searchOf s (kindNumber kind) wanted L (R .build))
+  unfolding findOut
+  built-is p = rw (eq-eqb (R .build .number) 0 p)
 
-    of-entry : (k off index slot : ℕ) → ConfirmedEntry (foundHits r) os ms as′ k off index slot → Confirmed (C .hits) (A .list) k off index slot
-    of-entry k off index slot e = record {
-      in-list = rw (G .hits) at (e .in-list);
-      entry =
-          hit-is (getD (C .hits) k noHit) off index
-          (sym (off-at (C .hits) k) ∙ (sym (padded-at (L .offs) (offs (C .hits)) k) ∙ (ap (λ (l : List ℕ). getD l k 0) (sym (G .offsets)) ∙ e .offset)))
-          (sym (mark-at (C .hits) k) ∙ (sym (padded-at (L .marks) (marks (C .hits)) k) ∙ (ap (λ (l : List ℕ). getD l k 0) (sym (G .indices)) ∙ e .mark)));
-      answer = sym (padded-at (L .answers) (A .list) k) ∙ (ap (λ (l : List ℕ). getD l k 0) (sym (G .answers)) ∙ e .answer);
-      confirmed = e .confirmed;
-    }
+  number-built : R .build .number ≡ 0 → goal .number ≡ searchOf s (kindNumber kind) wanted L (R .build) .number
+  number-built p =
+      ap (λ (o : Find). o .number) (built-is p) ∙ found-number (R .build) (searchOf s (kindNumber kind) wanted L (R .build))
 
-    listing-is : (slot : ℕ) → listingOf (lentOf (h .methods .size) L list) B slot ≡ listOut ws slot list
-    listing-is slot = rw (G .shares)
+  number-unscanned : R .build .number ≡ 0 → R .scan .number ≢ 0 → goal .number ≡ R .scan .number
+  unfolding searchOut
+  number-unscanned p n =
+      number-built p
+      ∙ ⊎-elim
+      (λ (e : eqb (R .scan .number) 0 ≡ true). absurd (n (eqb-true (R .scan .number) 0 e)))
+      (λ (e : eqb (R .scan .number) 0 ≡ false). rw e)
+      (case (eqb (R .scan .number) 0))
 
-    rises : (i j : ℕ) → i < j → j < foundHits r → getD os i 0 < getD os j 0
-    unfolding Rising
-    rises i j p q =
-        let q′ : j < length (offs (C .hits)) = rw (length-offs (C .hits)) (rw (G .hits) at q) in
-        let z : getD (offs (C .hits)) i 0 < getD (offs (C .hits)) j 0 = F .rising i j p q′ in
-        rw (G .offsets, padded-at (L .offs) (offs (C .hits)) i, padded-at (L .offs) (offs (C .hits)) j) z
+  number-scanned : R .build .number ≡ 0 → R .scan .number ≡ 0 → goal .number ≡ R .located .number
+  unfolding searchOut
+  number-scanned p q =
+      number-built p ∙ (rw (eq-eqb (R .scan .number) 0 q) (searched-number (R .scan .hits) _) ∙ ap (λ (A : Outcome). A .number) (located-is p))
 
-    delivers : Delivers s codes kind wanted list r ws os ms as′
-    delivers = record {
-      succeeds = G .number;
-      complete = λ c m off index n.
-          let x = F .complete c m off index n in
-          record { k = x .k; slot = x .slot; entry = entry-of (x .k) off index (x .slot) (x .entry); lists = rw (listing-is (x .slot)) at (x .lists) };
-      rising = rises;
-      others = λ k off index slot e. rw (listing-is slot) at (F .others k off index slot (of-entry k off index slot e));
-    }
+  pub all-is : R .build .number ≡ 0 → R .scan .number ≡ 0 → R .located .number ≡ 0
+      → goal ≡ record { number = 0; build = R .build; hits = R .scan .hits; answers = R .located .list }
+  unfolding searchOut
+  all-is p q t = built-is p ∙ rw (eq-eqb (R .scan .number) 0 q, located-is p, eq-eqb (R .located .number) 0 t)
 
-pub promised : (s : List ℕ) (h : DexHeader) (number : ℕ) (wanted : List ℕ) (L : Lengths) (r : Found) (zs ts xs ws os ms fs as′ : List ℕ)
-    → GivesFind (findOut s h number wanted L) L r zs ts xs ws os ms fs as′ → Promise s h number wanted L r ws os ms as′
-unfolding Promise
-promised s h number wanted L r zs ts xs ws os ms fs as′ G codes P kind e list S =
-    let F = demand3 s h codes P kind wanted (lentOf (h .methods .size) L list) S in
-    let H : GivesFind (findOut s h (kindNumber kind) wanted L) L r zs ts xs ws os ms fs as′ = rw e at G in
-    delivers s h kind wanted L list codes r zs ts xs ws os ms fs as′ F
-    (rw (all-is s h kind wanted L list (F .build-succeeds) (F .scan-succeeds) (F .locate-succeeds)) at H)
+  -- ---- a supposed file
+  module _ (codes : List Code) (P : Supposed s (h .mapoff) (h .classes .off) (h .classes .size) m codes) where
+    pub all-found : Suffices s m codes kind wanted (lentOf m w)
+        → goal ≡ record { number = 0; build = R .build; hits = R .scan .hits; answers = R .located .list }
+    all-found F =
+        let X : Finds s codes kind wanted R = over-outcomes s h codes P kind wanted (lentOf m w) F in
+        all-is (X .build-succeeds) (X .scan-succeeds) (X .locate-succeeds)
+
+    -- "lent buffers that suffice", exactly, are those with which the outcome is not 4
+    pub suffices-not-four : Suffices s m codes kind wanted (lentOf m w) → goal .number ≢ 4
+    suffices-not-four F e = omega (arith, ap (λ (o : Find). o .number) (all-found F))
+
+    pub not-four-suffices : goal .number ≢ 4 → Suffices s m codes kind wanted (lentOf m w)
+    not-four-suffices n =
+        let T : HoldsTable m codes (L .build) = build-holds s h codes P kind wanted (lentOf m w) (λ z. n (number-unbuilt (λ y. omega arith) ∙ z)) in
+        let b : R .build ≡ wholeBuild (length s) m codes = build-is s h codes P kind wanted (lentOf m w) T in
+        let p : R .build .number ≡ 0 = ap (λ (B : Build). B .number) b in
+        let O = scan-holds s h codes P kind wanted (lentOf m w)
+        (λ z. let y : R .scan .number ≡ 4 = ap (λ (B : Build). scannedOf s kind wanted (lentOf m w) B .number) b ∙ z in
+        n (number-unscanned p (λ x. omega arith) ∙ y)) in
+        let c : R .scan ≡ record { number = 0; hits = entriesOf s codes kind wanted } =
+        ap (scannedOf s kind wanted (lentOf m w)) b ∙ scan-is s h codes P kind wanted (lentOf m w) (O .0) (O .1) in
+        let q : R .scan .number ≡ 0 = ap (λ (S : Scan). S .number) c in
+        let a : R .located ≡ locatedOf s (lentOf m w) (wholeBuild (length s) m codes) (record { number = 0; hits = entriesOf s codes kind wanted }) =
+        ap (λ (B : Build). locatedOf s (lentOf m w) B (R .scan)) b ∙ ap (locatedOf s (lentOf m w) (wholeBuild (length s) m codes)) c in
+        let A = locate-holds s h codes P kind wanted (lentOf m w) (omega arith)
+        (λ z. n (number-scanned p q ∙ (ap (λ (o : Outcome). o .number) a ∙ z))) in
+        record { build = T; offs = O .0; marks = O .1; answers = A .0; starts-passed = omega arith; further = A .1 }
+
+    module _ (r : Found) (after : FindWords) (G : GivesFind goal r w after) where
+      holds : GivesFind (record { number = 0; build = R .build; hits = R .scan .hits; answers = R .located .list }) r w after → Holds R after
+      holds H = record {
+        shares = H .shares;
+        offs = λ k. ap (λ (l : List ℕ). getD l k 0) (H .offs) ∙ padded-at (length (w .hits .offs)) (offs (R .scan .hits)) k;
+        marks = λ k. ap (λ (l : List ℕ). getD l k 0) (H .marks) ∙ padded-at (length (w .hits .marks)) (marks (R .scan .hits)) k;
+        answers = λ k. ap (λ (l : List ℕ). getD l k 0) (H .answers) ∙ padded-at (length (w .located .answers)) (R .located .list) k;
+      }
+
+      pub kept : Kept (callOf s h (kindNumber kind) wanted) codes kind w (replyOf r) after
+      kept = record {
+        enough = λ E z. suffices-not-four (enough-suffices P kind wanted w E) (sym (G .number) ∙ z);
+        succeeds = λ n.
+            let F : Suffices s m codes kind wanted (lentOf m w) = not-four-suffices (λ z. n (G .number ∙ z)) in
+            G .number ∙ ap (λ (o : Find). o .number) (all-found F);
+        delivers = λ n.
+            let F : Suffices s m codes kind wanted (lentOf m w) = not-four-suffices (λ z. n (G .number ∙ z)) in
+            let H : GivesFind (record { number = 0; build = R .build; hits = R .scan .hits; answers = R .located .list }) r w after = rw (all-found F) at G in
+            rw (H .count) (delivers (over-outcomes s h codes P kind wanted (lentOf m w) F) (holds H));
+      }
+
+pub promised : (s : List ℕ) (h : DexHeader) (number : ℕ) (wanted : List ℕ) (r : Found) (before after : FindWords)
+    → GivesFind (findOut s h number wanted (lengthsOf before)) r before after → Demand3 (callOf s h number wanted) before (replyOf r) after
+unfolding Demand3
+promised s h number wanted r before after G codes P kind e =
+    let H : GivesFind (findOut s h (kindNumber kind) wanted (lengthsOf before)) r before after = rw e at G in
+    rw e (kept s h kind wanted before codes P r after H)
 
 -- what the finder gives, and what it promises
-pub both : (s : List ℕ) (h : DexHeader) (number : ℕ) (wanted : List ℕ) (L : Lengths) (r : Found) (zs ts xs ws os ms fs as′ : List ℕ)
-    → GivesFind (findOut s h number wanted L) L r zs ts xs ws os ms fs as′
-    → GivesFind (findOut s h number wanted L) L r zs ts xs ws os ms fs as′ × Promise s h number wanted L r ws os ms as′
-both s h number wanted L r zs ts xs ws os ms fs as′ G = (G, promised s h number wanted L r zs ts xs ws os ms fs as′ G)
+pub both : (s : List ℕ) (h : DexHeader) (number : ℕ) (wanted : List ℕ) (r : Found) (before after : FindWords)
+    → GivesFind (findOut s h number wanted (lengthsOf before)) r before after
+    → GivesFind (findOut s h number wanted (lengthsOf before)) r before after × Demand3 (callOf s h number wanted) before (replyOf r) after
+both s h number wanted r before after G = (G, promised s h number wanted r before after G)

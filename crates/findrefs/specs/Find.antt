@@ -1,23 +1,58 @@
 -- The outcome of the finder: the outcomes of build, scan and locate one after another, up to the first that refuses.
 -- Assumes nothing.
-use Prim.Native.Nat.{ℕ}
+use Prim.Native.Nat.{ℕ, _/_}
 use mathlib.Core.List.{List, []}
 use mathlib.Core.Bool.{cond}
+use lib.ListN.{length}
 use lib.Dec.{eqb}
 use Rattle.words.specs.Padded.{padded}
+use Rattle.refusal.specs.Outcomes.{Outcome}
 use Rattle.tinydex.specs.declared.DexHeader.{DexHeader}
 use Rattle.code_table.specs.Build.{Room, Build, noBuild, buildOut}
-use Rattle.code_item_scan.specs.Scan.{Hit}
-use Rattle.scan_locate.specs.Search.{Search, searchOut}
+use Rattle.code_table.specs.Answer.{roomOf}
+use Rattle.code_item_scan.specs.Scan.{Hit, offs, Asked, asked, HitRoom, scanOut}
+use Rattle.code_item_scan.specs.Answers.{hitRoomOf}
+use Rattle.insn_locator.specs.Locate.{Tables, locateOut}
+use Rattle.insn_locator.specs.Answers.{tables}
+use Rattle.completeness.specs.Completeness.{FindWords}
 
 -- how many words are lent
 pub record Lengths : Type 0 where
   pub build : Room
-  pub offs : ℕ
-  pub marks : ℕ
+  pub hits : HitRoom
   pub further : ℕ
   pub answers : ℕ
 
+abbrev pub lengthsOf : FindWords → Lengths
+lengthsOf w = record {
+  build = roomOf (w .table);
+  hits = hitRoomOf (w .hits);
+  further = length (w .located .further);
+  answers = length (w .located .answers);
+}
+
+-- ---- scan and locate: the refusal's number (0 for success), the hits, and an answer for each
+pub record Search : Type 0 where
+  pub number : ℕ
+  pub hits : List Hit
+  pub answers : List ℕ
+
+-- where locate refuses no hit is left
+abbrev pub searched : List Hit → Outcome → Search
+searched hits A =
+    cond (eqb (A .number) 0)
+    (record { number = 0; hits = hits; answers = A .list })
+    (record { number = A .number; hits = []; answers = A .list })
+
+-- over any tables; further and answers count the words for last confirmed offsets and for answers
+unfoldable pub searchOut : List ℕ → Asked → Tables → HitRoom → ℕ → ℕ → Search
+searchOut s A T room further answers =
+    let S = scanOut s A room in
+    cond (eqb (S .number) 0)
+    (searched (S .hits) (locateOut s T (offs (S .hits)) answers further))
+    (record { number = S .number; hits = S .hits; answers = [] })
+
+-- ---- the finder
 pub record Find : Type 0 where
   pub number : ℕ
   pub build : Build
@@ -31,11 +66,13 @@ found B R =
     (record { number = 0; build = B; hits = R .hits; answers = R .answers })
     (record { number = R .number; build = noBuild (R .number); hits = R .hits; answers = R .answers })
 
--- the search over the build's own region and tables: its slots and shares as they stand in the lent slices, and a start word for each method
+-- the build's own tables: its slots and shares as they stand in the lent slices, and a start word for each method
+abbrev pub builtTables : Build → Lengths → Tables
+builtTables B L = tables (B .from / 16) (padded (L .build .slots) (B .slots)) (B .starts) (padded (L .build .shares) (B .shares))
+
+-- the search over the build's own region and tables
 abbrev pub searchOf : List ℕ → ℕ → List ℕ → Lengths → Build → Search
-searchOf s kind wanted L B =
-    searchOut s kind wanted (B .from) (B .to) (padded (L .build .slots) (B .slots)) (B .starts)
-    (padded (L .build .shares) (B .shares)) (L .offs) (L .marks) (L .further) (L .answers)
+searchOf s kind wanted L B = searchOut s (asked kind wanted (B .from) (B .to)) (builtTables B L) (L .hits) (L .further) (L .answers)
 
 unfoldable pub findOut : List ℕ → DexHeader → ℕ → List ℕ → Lengths → Find
 findOut s h kind wanted L =

@@ -1,13 +1,22 @@
 // The finder, whole (the source's manager): the code table's build, the scan of its region and locate of the scan's list, over lent
-// buffers. What a user is promised, demand 3, is a clause of its contract.
-ghost use Rattle.findrefs.specs.Find.{findOut};
-ghost use Rattle.findrefs.specs.Gives.{lengths, Keeps, GivesFind};
-ghost use Rattle.findrefs.specs.Promise.{Promise};
+// buffers. What a user is promised, demand 3, is a clause of its contract (crate completeness).
+ghost use Prim.Native.Nat.{_/_};
+ghost use lib.ListN.{length, take};
+ghost use Rattle.code_table.specs.Answer.{tableWords};
+ghost use Rattle.code_item_scan.specs.Scan.{asked};
+ghost use Rattle.code_item_scan.specs.Answers.{hitWords, hitRoomOf};
+ghost use Rattle.insn_locator.specs.Answers.{tables, locateWords};
+ghost use Rattle.completeness.specs.Completeness.{findWords, callOf, Demand3};
+ghost use Rattle.findrefs.specs.Find.{lengthsOf, searchOut, findOut};
+ghost use Rattle.findrefs.specs.Gives.{GivesFind, replyOf};
+ghost use Rattle.findrefs.specs.Steps.{FoundIn};
 use code_table::Built;
 use code_table::Region;
 use refusal::Answer;
 use refusal::Refusal;
 use tinydex::DexHeader;
+
+mod search;
 
 // The code region and how many entries the scan found; or a refusal.
 pub enum Found {
@@ -15,34 +24,55 @@ pub enum Found {
     Refused(Refusal),
 }
 
-// The finder's answer. A refused search clears what was built.
-fn keep(
-    built: Built,
-    answer: Answer,
+// The search over what a build returned. Where it refuses it clears that too.
+fn found_in(
+    file: &[u8],
+    region: Region,
+    methods: u32,
+    kind: u32,
+    wanted: &[u32],
     starts: &mut [u32],
     triples: &mut [u32],
     slots: &mut [u32],
     shares: &mut [u32],
+    offs: &mut [u32],
+    marks: &mut [u32],
+    further: &mut [u32],
+    answers: &mut [u32],
 ) -> Found
-    ensures { λ r. ⌜ Keeps built answer r (now (starts .entry)) (now (triples .entry)) (now (slots .entry)) (now (shares .entry)) (now (starts .exit)) (now (triples .exit)) (now (slots .exit)) (now (shares .exit)) ⌝ }
+    ensures { λ r.
+        let table = tableWords (now (starts .entry)) (now (triples .entry)) (now (slots .entry)) (now (shares .entry)) in
+        let left = tableWords (now (starts .exit)) (now (triples .exit)) (now (slots .exit)) (now (shares .exit)) in
+        let before = findWords table (hitWords (now (offs .entry)) (now (marks .entry))) (locateWords (now (further .entry)) (now (answers .entry))) in
+        let after = findWords left (hitWords (now (offs .exit)) (now (marks .exit))) (locateWords (now (further .exit)) (now (answers .exit))) in
+        let A = asked kind (now (wanted .entry)) (region .start) (region .end) in
+        let T = tables (region .start / 16) (now (slots .entry)) (take methods (now (starts .entry))) (now (shares .entry)) in
+        let room = hitRoomOf (before .hits) in
+        let o = searchOut (now (file .entry)) A T room (length (now (further .entry))) (length (now (answers .entry))) in
+        ⌜ FoundIn o region r before after ⌝ }
 {
-    match built {
-        Built::Refused(r) => Found::Refused(r),
-        Built::Done {
-            region,
-            codes: _,
-            slots: _,
-            shares: _,
-        } => match answer {
-            Answer::Done(n) => Found::Done {
-                region: region,
-                hits: n,
-            },
-            Answer::Refused(r) => {
-                scan_locate::clear_four(starts, triples, slots, shares);
-                Found::Refused(r)
-            }
+    match search::search(
+        file,
+        region,
+        methods,
+        kind,
+        wanted,
+        slots,
+        starts,
+        shares,
+        offs,
+        marks,
+        further,
+        answers,
+    ) {
+        Answer::Done(n) => Found::Done {
+            region: region,
+            hits: n,
         },
+        Answer::Refused(r) => {
+            search::clear_four(starts, triples, slots, shares);
+            Found::Refused(r)
+        }
     }
 }
 
@@ -63,23 +93,43 @@ pub fn find(
     further: &mut [u32],
     answers: &mut [u32],
 ) -> Found
-    ensures gives { λ r. ⌜ GivesFind (findOut (now (file .entry)) header kind (now (wanted .entry)) (lengths (now (starts .entry)) (now (triples .entry)) (now (slots .entry)) (now (shares .entry)) (now (offs .entry)) (now (marks .entry)) (now (further .entry)) (now (answers .entry)))) (lengths (now (starts .entry)) (now (triples .entry)) (now (slots .entry)) (now (shares .entry)) (now (offs .entry)) (now (marks .entry)) (now (further .entry)) (now (answers .entry))) r (now (starts .exit)) (now (triples .exit)) (now (slots .exit)) (now (shares .exit)) (now (offs .exit)) (now (marks .exit)) (now (further .exit)) (now (answers .exit)) ⌝ }
-    ensures demand_3 { λ r. ⌜ Promise (now (file .entry)) header kind (now (wanted .entry)) (lengths (now (starts .entry)) (now (triples .entry)) (now (slots .entry)) (now (shares .entry)) (now (offs .entry)) (now (marks .entry)) (now (further .entry)) (now (answers .entry))) r (now (shares .exit)) (now (offs .exit)) (now (marks .exit)) (now (answers .exit)) ⌝ }
+    ensures gives { λ r.
+        let table = tableWords (now (starts .entry)) (now (triples .entry)) (now (slots .entry)) (now (shares .entry)) in
+        let left = tableWords (now (starts .exit)) (now (triples .exit)) (now (slots .exit)) (now (shares .exit)) in
+        let before = findWords table (hitWords (now (offs .entry)) (now (marks .entry))) (locateWords (now (further .entry)) (now (answers .entry))) in
+        let after = findWords left (hitWords (now (offs .exit)) (now (marks .exit))) (locateWords (now (further .exit)) (now (answers .exit))) in
+        ⌜ GivesFind (findOut (now (file .entry)) header kind (now (wanted .entry)) (lengthsOf before)) r before after ⌝ }
+    ensures demand_3 { λ r.
+        let table = tableWords (now (starts .entry)) (now (triples .entry)) (now (slots .entry)) (now (shares .entry)) in
+        let left = tableWords (now (starts .exit)) (now (triples .exit)) (now (slots .exit)) (now (shares .exit)) in
+        let before = findWords table (hitWords (now (offs .entry)) (now (marks .entry))) (locateWords (now (further .entry)) (now (answers .entry))) in
+        let after = findWords left (hitWords (now (offs .exit)) (now (marks .exit))) (locateWords (now (further .exit)) (now (answers .exit))) in
+        ⌜ Demand3 (callOf (now (file .entry)) header kind (now (wanted .entry))) before (replyOf r) after ⌝ }
 {
-    let built = code_table::parse(file, header, starts, triples, slots, shares);
-    let answer = scan_locate::search_built(
-        built,
-        header.methods.size,
-        file,
-        kind,
-        wanted,
-        slots,
-        starts,
-        shares,
-        offs,
-        marks,
-        further,
-        answers,
-    );
-    keep(built, answer, starts, triples, slots, shares)
+    match code_table::parse(file, header, starts, triples, slots, shares) {
+        Built::Refused(r) => {
+            search::clear_four(offs, marks, further, answers);
+            Found::Refused(r)
+        }
+        Built::Done {
+            region,
+            codes: _,
+            slots: _,
+            shares: _,
+        } => found_in(
+            file,
+            region,
+            header.methods.size,
+            kind,
+            wanted,
+            starts,
+            triples,
+            slots,
+            shares,
+            offs,
+            marks,
+            further,
+            answers,
+        ),
+    }
 }

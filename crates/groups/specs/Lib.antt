@@ -3,4 +3,6 @@ pub mod Lists
 pub mod Groups
 pub mod Keys
 pub mod Built
+pub mod Join
+pub mod Stretch
 pub mod Steps

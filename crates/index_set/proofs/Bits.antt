@@ -23,8 +23,8 @@ use borrow.Author.Tests.{lt-ltb, le-ltb, eq-eqb, ne-eqb, eqb-true, eqb-false}
 use Rattle.words.specs.Padded.{zeros}
 use Rattle.words.proofs.Padded.{padded-at, padded-none}
 use Rattle.words.proofs.Shared.{case, or-right}
-use Rattle.rising.specs.Rising.{SetOf}
-use Rattle.rising.proofs.Sets.{below-or-not, set-same, set-empty, set-cons}
+use Rattle.word_set.specs.Sets.{SetOf}
+use Rattle.word_set.proofs.Sets.{below-or-not, set-same, set-empty, set-cons}
 use Rattle.index_set.specs.Bits.{bitOf, isHeld, Adds, heldFrom, indices}
 
 -- ---- one word

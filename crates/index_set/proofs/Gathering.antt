@@ -10,11 +10,11 @@ use mathlib.Core.List.{List, [], _∷_, _++_}
 use lib.ListN.{length, getD}
 use lib.Dec.{eqb}
 use borrow.Author.Tests.{eq-eqb, ne-eqb}
-use Rattle.rising.specs.Rising.{Inserts, Joins, none, next, stop}
-use Rattle.rising.specs.declared.Insertion.{Insertion}
-use Rattle.rising.specs.declared.Insertion.the-variants.{Held, Full}
-use Rattle.rising.specs.Found.{Matched, Holding, HeldOr}
-use Rattle.rising.proofs.Joins.{joins-append, joins-full, joins-matched}
+use Rattle.word_set.specs.Sets.{Inserts, Joins, none, next, stop}
+use Rattle.word_set.specs.declared.Insertion.{Insertion}
+use Rattle.word_set.specs.declared.Insertion.the-variants.{Held, Full}
+use Rattle.word_set.specs.Found.{Matched, Holding, HeldOr}
+use Rattle.word_set.proofs.Joins.{joins-append, joins-full, joins-matched}
 use Rattle.index_set.specs.Bits.{isHeld, heldFrom, indices}
 use Rattle.index_set.proofs.Bits.{indices-set, held-one, held-none, held-empty, held-split, bit-here, bit-next, bits-done, bits-left}
 

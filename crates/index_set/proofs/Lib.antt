@@ -1,2 +1,4 @@
+pub mod Marking
+pub mod Walking
 pub mod Bits
 pub mod Gathering

@@ -1,10 +1,12 @@
 // Sets of indices as bits of lent words: index x has bit x % 64 of word x / 64. One look tells whether an index is held, and the
 // indices held are read off in order, past 64 at a time where a word has none.
-use rising::Insertion;
+pub mod marked; // marked.rt: a set that is collected from words in any order
+
+use word_set::Insertion;
 ghost use mathlib.Core.Path.{_≡_};
 ghost use Prim.Native.Nat.{_+_, _*_, _≤_, _<_};
 ghost use lib.ListN.{length};
-ghost use Rattle.rising.specs.Rising.{Joins};
+ghost use Rattle.word_set.specs.Sets.{Joins};
 ghost use Rattle.index_set.specs.Bits.{isHeld, Adds, heldFrom, indices};
 
 // Whether x is held.
@@ -40,7 +42,7 @@ fn gather_word(bits: &[u64], i: usize, out: &mut [u32], n: usize) -> Insertion
     let mut held = n;
     while w != 0 {
         if w % 2 == 1 {
-            let Insertion::Held(m) = rising::insert(out, held, x as u32) else {
+            let Insertion::Held(m) = word_set::insert(out, held, x as u32) else {
                 return Insertion::Full;
             };
             held = m;

@@ -9,7 +9,7 @@ use native.Mathlib.Omega.{arith}
 use lib.ListN.{length, getD, set, drop, drop-of-length-le}
 use lib.Seq.{drop-cons}
 use Rattle.insn_locator.specs.Locate.{Tables, Answered, slotAt, answered, consTo, andThen, locateFrom}
-use Rattle.insn_locator.specs.Answers.{stored}
+use Rattle.insn_locator.specs.Steps.{stored}
 
 -- ---- one entry of the list
 

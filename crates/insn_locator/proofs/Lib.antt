@@ -1,5 +1,5 @@
 pub mod Steps
-pub mod Walking
+pub mod Walks
 pub mod Tables
 pub mod Entries
 pub mod Whole

@@ -9,8 +9,10 @@ use native.Mathlib.Nat.{add-zero}
 use native.Mathlib.Omega.{arith}
 use lib.ListN.{length, getD, set}
 use borrow.Author.Tests.{lt-ltb, le-ltb, le-leb, lt-leb, eq-eqb, ne-eqb}
+use Rattle.start_words.specs.Starts.{hasStart, startOf}
 use Rattle.code_table.specs.Slots.{shared}
-use Rattle.insn_locator.specs.Locate.{lands, Tables, slotAt, firstOf, Answered, fromOf, tried, answeredBy, answered}
+use Rattle.insn_locator.specs.Walk.{lands}
+use Rattle.insn_locator.specs.Locate.{Tables, slotAt, firstOf, Answered, fromOf, tried, answeredBy, answered}
 
 -- ---- the slot and its first method
 
@@ -42,7 +44,7 @@ module _ (starts last : List ℕ) (m a : ℕ) (confirmed : a ≡ getD last m 0) 
   pub from-confirmed : (a ≡ 0 → ⊥) → a ≡ fromOf starts last m
   from-confirmed n = rw (← confirmed, ne-eqb a 0 n)
 
-  pub from-start : a ≡ 0 → getD starts m 0 ≡ fromOf starts last m
+  pub from-start : a ≡ 0 → startOf starts m ≡ fromOf starts last m
   from-start z = rw (← confirmed, eq-eqb a 0 z)
 
 module _ (s starts last : List ℕ) (v m t from : ℕ) (here : from ≡ fromOf starts last m) where
@@ -61,16 +63,17 @@ module _ (s : List ℕ) (T : Tables) (last : List ℕ) (t v : ℕ) (slot : v ≡
   pub entry-free : v ≡ 0 → some (record { answer = 0; last = last }) ≡ answered s T last t (slotAt (T .base) (T .slots) t)
   entry-free z = rw (← slot, eq-eqb v 0 z)
 
-  entry-by : (o : Option ℕ) → 0 < v → o ≡ firstOf (T .shares) v → answeredBy s (T .starts) last v t o ≡ answered s T last t (slotAt (T .base) (T .slots) t)
+  entry-by : (o : Option ℕ) → 0 < v → o ≡ firstOf (T .shares) v
+      → answeredBy s (T .starts) last v t o ≡ answered s T last t (slotAt (T .base) (T .slots) t)
   entry-by o h e = rw (← slot, ne-eqb v 0 (λ z. omega arith), ← e)
 
   pub entry-missing : 0 < v → none ≡ firstOf (T .shares) v → none ≡ answered s T last t (slotAt (T .base) (T .slots) t)
   entry-missing h e = entry-by none h e
 
-  pub entry-unknown : (m : ℕ) → 0 < v → some m ≡ firstOf (T .shares) v → length (T .starts) ≤ m
+  pub entry-unknown : (m : ℕ) → 0 < v → some m ≡ firstOf (T .shares) v → hasStart (T .starts) m ≡ false
       → none ≡ answered s T last t (slotAt (T .base) (T .slots) t)
-  entry-unknown m h e k = simp (le-ltb m (length (T .starts)) k) at (entry-by (some m) h e)
+  entry-unknown m h e k = rw k at (entry-by (some m) h e)
 
-  pub entry-tried : (m : ℕ) (r : Answered) → 0 < v → some m ≡ firstOf (T .shares) v → m < length (T .starts) → r ≡ tried s (T .starts) last v m t
+  pub entry-tried : (m : ℕ) (r : Answered) → 0 < v → some m ≡ firstOf (T .shares) v → hasStart (T .starts) m ≡ true → r ≡ tried s (T .starts) last v m t
       → some r ≡ answered s T last t (slotAt (T .base) (T .slots) t)
-  entry-tried m r h e k q = ap some q ∙ (simp (lt-ltb m (length (T .starts)) k) at (entry-by (some m) h e))
+  entry-tried m r h e k q = ap some q ∙ (rw k at (entry-by (some m) h e))

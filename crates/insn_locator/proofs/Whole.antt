@@ -14,7 +14,7 @@ use Rattle.words.proofs.Padded.{sets-zeros}
 use Rattle.refusal.specs.Refusals.{tooLarge}
 use Rattle.refusal.specs.Outcomes.{refused, success}
 use Rattle.insn_locator.specs.Locate.{Tables, Answered, slotAt, answered, consTo, andThen, locateFrom, locateAll, answersFrom, locateOut}
-use Rattle.insn_locator.specs.Answers.{stored}
+use Rattle.insn_locator.specs.Steps.{stored}
 
 pub take-zeros : (n k : ℕ) → n ≤ k → take n (zeros k) ≡ zeros n
 take-zeros zero k h = refl
@@ -64,7 +64,8 @@ module _ (s : List ℕ) (T : Tables) (entries : List ℕ) (room further : ℕ) w
         unfolding locateOut locateAll
         locate-run q e = rw (fits, le-leb (length entries) room enough, le-leb (length (T .starts)) further known, ← none-yet, e)
 
-        fault-by : (out : List ℕ) (q : Option (List ℕ)) → locateFrom s T last entries ≡ q → none ≡ stored out 0 q → locateOut s T entries room further ≡ refused 15
+        fault-by : (out : List ℕ) (q : Option (List ℕ)) → locateFrom s T last entries ≡ q → none ≡ stored out 0 q
+            → locateOut s T entries room further ≡ refused 15
         fault-by out none e p = locate-run none e
         fault-by out (some xs) e p = absurd (let z : _≡_ {A = ℕ} 0 1 = cc in omega arith)
 
@@ -78,7 +79,8 @@ module _ (s : List ℕ) (T : Tables) (entries : List ℕ) (room further : ℕ) w
           pub count : length list ≡ length entries
           pub words : out′ ≡ padded room list
 
-        done-by : (out out′ : List ℕ) → out ≡ zeros room → (q : Option (List ℕ)) → locateFrom s T last entries ≡ q → some out′ ≡ stored out 0 q → Ran out′
+        done-by : (out out′ : List ℕ) → out ≡ zeros room → (q : Option (List ℕ)) → locateFrom s T last entries ≡ q → some out′ ≡ stored out 0 q
+            → Ran out′
         done-by out out′ z none e p = absurd (let w : _≡_ {A = ℕ} 0 1 = cc in omega arith)
         done-by out out′ z (some xs) e p =
             let k : length xs ≡ length entries = answers-length s T entries last xs e in

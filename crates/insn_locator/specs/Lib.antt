@@ -1,3 +1,4 @@
-pub mod Locate
-pub mod Listing
 pub mod Answers
+pub mod Locate
+pub mod Walk
+pub mod Steps

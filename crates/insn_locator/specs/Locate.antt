@@ -1,34 +1,16 @@
--- Locate, as document 01 says it under insn_locator.rs: which entries a walk over instructions confirms, over any tables.
+-- SPEC, Locate: which entries a walk over instructions confirms, over any tables.
 -- Assumes nothing.
-use Prim.Native.Nat.{ℕ, zero, suc, _+_, _-_, _*_, _/_}
+use Prim.Native.Nat.{ℕ, _+_, _-_, _*_, _/_}
 use mathlib.Core.List.{List, [], _∷_}
 use mathlib.Core.Bool.{Bool, true, false, cond, _&&_}
 use mathlib.Core.Option.{Option, none, some}
 use lib.ListN.{length, getD, set, replicate}
 use lib.Dec.{ltb, leb, eqb}
-use Rattle.dalvik.specs.Numbers.{byte}
-use Rattle.opcodes.specs.Length.{unitsOf}
 use Rattle.refusal.specs.Refusals.{tooLarge}
 use Rattle.refusal.specs.Outcomes.{Outcome, refused, success}
+use Rattle.start_words.specs.Starts.{startCount, hasStart, startOf}
 use Rattle.code_table.specs.Slots.{shared, shareAt}
-
--- the offset behind the instruction at p; none outside the file, or where the opcode has no length
-unfoldable pub step : List ℕ → ℕ → Option ℕ
-step s p = cond (ltb p (length s) && ltb 0 (unitsOf (byte s p))) (some (p + 2 * unitsOf (byte s p))) none
-
--- going on after a step: a where there is none
-abbrev pub onStep : Option ℕ → Bool → (ℕ → Bool) → Bool
-onStep none a g = a
-onStep (some q) a g = g q
-
--- a walk of at most n steps from p lands on t exactly
-unfoldable pub landsIn : ℕ → List ℕ → ℕ → ℕ → Bool
-landsIn zero s p t = eqb p t
-landsIn (suc n) s p t = cond (ltb p t) (onStep (step s p) false (λ q. landsIn n s q t)) (eqb p t)
-
--- a step goes forward, so the bytes between bound the steps
-unfoldable pub lands : List ℕ → ℕ → ℕ → Bool
-lands s p t = landsIn (t - p) s p t
+use Rattle.insn_locator.specs.Walk.{lands}
 
 -- what a build returned, or any other words
 pub record Tables : Type 0 where
@@ -46,14 +28,14 @@ unfoldable pub firstOf : List ℕ → ℕ → Option ℕ
 firstOf ws v =
     cond (ltb v shared) (some (v - 1)) (cond (leb (3 * (v - shared) + 3) (length ws)) (some (shareAt ws (v - shared) 0)) none)
 
--- an entry's answer, and the last confirmed offset of each method behind it
+-- an entry's answer, and the last confirmed offset of each method after it
 pub record Answered : Type 0 where
   pub answer : ℕ
   pub last : List ℕ
 
 -- where the walk of method m begins: its last confirmed offset, else its start
 abbrev pub fromOf : List ℕ → List ℕ → ℕ → ℕ
-fromOf starts last m = cond (eqb (getD last m 0) 0) (getD starts m 0) (getD last m 0)
+fromOf starts last m = cond (eqb (getD last m 0) 0) (startOf starts m) (getD last m 0)
 
 -- the slot word is v, and its first method m: a start of 0 confirms nothing
 abbrev pub tried : List ℕ → List ℕ → List ℕ → ℕ → ℕ → ℕ → Answered
@@ -65,10 +47,14 @@ tried s starts last v m t =
 -- no first method, or one without a start word: 15
 abbrev pub answeredBy : List ℕ → List ℕ → List ℕ → ℕ → ℕ → Option ℕ → Option Answered
 answeredBy s starts last v t none = none
-answeredBy s starts last v t (some m) = cond (ltb m (length starts)) (some (tried s starts last v m t)) none
+answeredBy s starts last v t (some m) = cond (hasStart starts m) (some (tried s starts last v m t)) none
 
 abbrev pub answered : List ℕ → Tables → List ℕ → ℕ → ℕ → Option Answered
 answered s T last t v = cond (eqb v 0) (some (record { answer = 0; last = last })) (answeredBy s (T .starts) last v t (firstOf (T .shares) v))
+
+-- the answer of an entry at t
+abbrev pub answeredAt : List ℕ → Tables → List ℕ → ℕ → Option Answered
+answeredAt s T last t = answered s T last t (slotAt (T .base) (T .slots) t)
 
 abbrev pub consTo : ℕ → Option (List ℕ) → Option (List ℕ)
 consTo a none = none
@@ -81,11 +67,11 @@ andThen (some r) f = consTo (r .answer) (f (r .last))
 -- the answers of the entries, in order; none for 15
 unfoldable pub locateFrom : List ℕ → Tables → List ℕ → List ℕ → Option (List ℕ)
 locateFrom s T last [] = some []
-locateFrom s T last (t ∷ ts) = andThen (answered s T last t (slotAt (T .base) (T .slots) t)) (λ l. locateFrom s T l ts)
+locateFrom s T last (t ∷ ts) = andThen (answeredAt s T last t) (λ l. locateFrom s T l ts)
 
 -- every last confirmed offset is 0 at first
 unfoldable pub locateAll : List ℕ → Tables → List ℕ → Option (List ℕ)
-locateAll s T ts = locateFrom s T (replicate (length (T .starts)) 0) ts
+locateAll s T ts = locateFrom s T (replicate (startCount (T .starts)) 0) ts
 
 abbrev pub answersFrom : Option (List ℕ) → Outcome
 answersFrom none = refused 15
@@ -95,4 +81,4 @@ answersFrom (some l) = success l
 unfoldable pub locateOut : List ℕ → Tables → List ℕ → ℕ → ℕ → Outcome
 locateOut s T entries room further =
     cond (tooLarge (length s)) (refused 1)
-    (cond (leb (length entries) room && leb (length (T .starts)) further) (answersFrom (locateAll s T entries)) (refused 4))
+    (cond (leb (length entries) room && leb (startCount (T .starts)) further) (answersFrom (locateAll s T entries)) (refused 4))

@@ -1,16 +1,13 @@
 // Confirms entries (`insn_verify` and `locate` of insn_locator.rs): an entry is confirmed where a walk over instructions, from its
 // method's start or from that method's last confirmed entry, lands on it exactly.
+mod walk; // walk.rt: the walk over instructions, and its step
+
 ghost use mathlib.Core.Path.{_≡_};
 ghost use Prim.Native.Nat.{_<_};
 ghost use lib.ListN.{length};
-ghost use Rattle.insn_locator.specs.Locate.{step, lands, slotAt, firstOf, fromOf, tried, answered, locateFrom, locateOut};
-ghost use Rattle.insn_locator.specs.Answers.{tables, nextOf, firstValue, entryOf, stored, ranTo, Located};
-
-// Where a walk goes on.
-enum Advance {
-    Next(usize),
-    Stuck,
-}
+ghost use Rattle.insn_locator.specs.Answers.{tables, entryOf, locateWords, Located};
+ghost use Rattle.insn_locator.specs.Locate.{slotAt, firstOf, fromOf, tried, answeredAt, locateFrom, locateOut};
+ghost use Rattle.insn_locator.specs.Steps.{firstValue, stored, ranTo};
 
 // The first method of a slot, where its share is inside.
 enum First {
@@ -19,37 +16,9 @@ enum First {
 }
 
 // An entry's answer, or a table that does not hold what is needed.
-enum Entry {
+pub enum Entry {
     Word(u32),
     Fault,
-}
-
-// The offset behind the instruction at a place.
-fn step(buf: &[u8], at: usize) -> Advance
-    ensures { λ r. ⌜ nextOf r ≡ step (now (buf .entry)) at ⌝ }
-{
-    if buf.len() <= at {
-        return Advance::Stuck;
-    }
-    let opcodes::Length::Units(n) = opcodes::oplen(buf[at]) else {
-        return Advance::Stuck;
-    };
-    Advance::Next(at + 2 * n)
-}
-
-// Whether the walk from start lands on end.
-fn insn_verify(buf: &[u8], start: u32, end: u32) -> bool
-    ensures { λ r. ⌜ r ≡ lands (now (buf .entry)) start end ⌝ }
-{
-    let to = end as usize;
-    let mut pos = start as usize;
-    while pos < to {
-        let Advance::Next(next) = step(buf, pos) else {
-            return false;
-        };
-        pos = next;
-    }
-    pos == to
 }
 
 // The slot of the block that holds an offset; 0 below or past the slots.
@@ -68,10 +37,10 @@ fn first_of(shares: &[u32], slot: u32) -> First
     requires { ⌜ 0 < slot ⌝ }
     ensures { λ r. ⌜ firstValue r ≡ firstOf (now (shares .entry)) slot ⌝ }
 {
-    if slot < 2147483648 {
+    if slot < code_table::SHARED {
         return First::Method(slot - 1);
     }
-    let at = 3 * ((slot - 2147483648) as usize);
+    let at = 3 * ((slot - code_table::SHARED) as usize);
     if shares.len() < at + 3 {
         return First::Missing;
     }
@@ -86,26 +55,29 @@ fn from_of(starts: &[u32], last: &[u32], m: usize) -> u32
     if confirmed != 0 {
         return confirmed;
     }
-    words::word_at(starts, m)
+    start_words::start(starts, m)
 }
 
 // The answer of an entry whose slot is not free: its method's last confirmed offset is noted.
 fn confirm(buf: &[u8], starts: &[u32], slot: u32, m: usize, off: u32, last: &mut [u32]) -> u32
-    ensures { λ r. ⌜ record { answer = r; last = now (last .exit) } ≡ tried (now (buf .entry)) (now (starts .entry)) (now (last .entry)) slot m off ⌝ }
+    ensures { λ r.
+        let before = now (last .entry) in
+        ⌜ record { answer = r; last = now (last .exit) } ≡ tried (now (buf .entry)) (now (starts .entry)) before slot m off ⌝ }
 {
     let from = from_of(starts, last, m);
     if from == 0 {
         return 0;
     }
-    if insn_verify(buf, from, off) {
+    let walked = walk::walk(buf, from, off);
+    if walked.lands {
         words::put(last, m, off);
         return slot;
     }
     0
 }
 
-// The answer of one entry.
-fn locate_one(
+// The answer of one entry: its slot word where it is confirmed, else 0. `last` has the last confirmed offset of each method, 0 for none.
+pub fn locate_one(
     buf: &[u8],
     base: u32,
     slots: &[u32],
@@ -114,7 +86,9 @@ fn locate_one(
     off: u32,
     last: &mut [u32],
 ) -> Entry
-    ensures { λ r. ⌜ entryOf r (now (last .exit)) ≡ answered (now (buf .entry)) (tables base (now (slots .entry)) (now (starts .entry)) (now (shares .entry))) (now (last .entry)) off (slotAt base (now (slots .entry)) off) ⌝ }
+    ensures answers { λ r.
+        let T = tables base (now (slots .entry)) (now (starts .entry)) (now (shares .entry)) in
+        ⌜ entryOf r (now (last .exit)) ≡ answeredAt (now (buf .entry)) T (now (last .entry)) off ⌝ }
 {
     let slot = slot_at(base, slots, off);
     if slot == 0 {
@@ -124,10 +98,10 @@ fn locate_one(
         return Entry::Fault;
     };
     let m = first as usize;
-    if starts.len() <= m {
-        return Entry::Fault;
+    if start_words::has_start(starts, m) {
+        return Entry::Word(confirm(buf, starts, slot, m, off, last));
     }
-    Entry::Word(confirm(buf, starts, slot, m, off, last))
+    Entry::Fault
 }
 
 // The answers of the entries, one after another; false where a table does not hold what one needs.
@@ -141,7 +115,10 @@ fn locate_list(
     last: &mut [u32],
     answers: &mut [u32],
 ) -> bool
-    ensures { λ r. ⌜ ranTo r (now (answers .exit)) ≡ stored (now (answers .entry)) 0 (locateFrom (now (buf .entry)) (tables base (now (slots .entry)) (now (starts .entry)) (now (shares .entry))) (now (last .entry)) (now (entries .entry))) ⌝ }
+    ensures { λ r.
+        let T = tables base (now (slots .entry)) (now (starts .entry)) (now (shares .entry)) in
+        let run = locateFrom (now (buf .entry)) T (now (last .entry)) (now (entries .entry)) in
+        ⌜ ranTo r (now (answers .exit)) ≡ stored (now (answers .entry)) 0 run ⌝ }
 {
     let mut i = 0;
     while i < entries.len() {
@@ -166,14 +143,19 @@ pub fn locate(
     further: &mut [u32],
     answers: &mut [u32],
 ) -> refusal::Answer
-    ensures { λ r. ⌜ Located (locateOut (now (file .entry)) (tables base (now (slots .entry)) (now (starts .entry)) (now (shares .entry))) (now (entries .entry)) (length (now (answers .entry))) (length (now (further .entry)))) r (now (further .entry)) (now (further .exit)) (now (answers .entry)) (now (answers .exit)) ⌝ }
+    ensures gives { λ r.
+        let T = tables base (now (slots .entry)) (now (starts .entry)) (now (shares .entry)) in
+        let before = locateWords (now (further .entry)) (now (answers .entry)) in
+        let after = locateWords (now (further .exit)) (now (answers .exit)) in
+        let o = locateOut (now (file .entry)) T (now (entries .entry)) (length (before .answers)) (length (before .further)) in
+        ⌜ Located o r before after ⌝ }
 {
     words::clear(further);
     words::clear(answers);
     if refusal::too_large(file.len()) {
         return refusal::Answer::Refused(refusal::Refusal::FileTooLarge);
     }
-    let n = starts.len();
+    let n = start_words::count(starts);
     if answers.len() < entries.len() {
         return refusal::Answer::Refused(refusal::Refusal::LentTooShort);
     }

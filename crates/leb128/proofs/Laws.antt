@@ -14,6 +14,9 @@ use borrow.Author.Tests.{lt-ltb, le-ltb, ltb-true}
 use Rattle.structs.specs.Reads.{ByteAt}
 use Rattle.words.proofs.Shared.{cond-elim}
 use Rattle.dalvik.specs.Numbers.{byte}
+use Rattle.refusal.specs.Refusals.{refusalNumber}
+use Rattle.refusal.specs.declared.Refusal.{Refusal}
+use Rattle.refusal.specs.declared.Refusal.the-variants.{NumberOutside}
 use Rattle.leb128.specs.Leb.{uleb, ulebFast, carry, lenOf, ulebLen, longer, ends}
 use Rattle.leb128.specs.declared.Uleb.{Uleb}
 use Rattle.leb128.specs.declared.Uleb.the-variants as u
@@ -21,7 +24,7 @@ use Rattle.leb128.specs.declared.Len.{Len}
 use Rattle.leb128.specs.declared.Len.the-variants as l
 
 module _ (k : ℕ) (s : List ℕ) (i : ℕ) where
-  pub off : length s ≤ i → u.RunsOff ≡ uleb (suc k) s i
+  pub off : length s ≤ i → u.Refused NumberOutside ≡ uleb (suc k) s i
   unfolding uleb
   off h = simp (le-ltb _ _ h)
 
@@ -47,7 +50,7 @@ fast s i r e = e
 -- n bytes passed, and then what is found
 pub ahead : ℕ → Len → Len
 ahead n (l.Bytes m) = l.Bytes (n + m)
-ahead n l.RunsOff = l.RunsOff
+ahead n (l.Refused r) = l.Refused r
 
 drop-off : (s : List ℕ) (i : ℕ) → length s ≤ i → drop i s ≡ []
 drop-off [] zero h = refl
@@ -58,18 +61,18 @@ drop-off (x ∷ s) (suc i) h = drop-off s i (omega arith)
 ahead-zero : (r : Len) → ahead 0 r ≡ r
 unfolding ahead
 ahead-zero (l.Bytes m) = ap l.Bytes (zero-add m)
-ahead-zero l.RunsOff = refl
+ahead-zero (l.Refused r) = refl
 
 ahead-longer : (n : ℕ) (r : Len) → ahead (n + 1) r ≡ ahead n (longer r)
 unfolding ahead
 ahead-longer n (l.Bytes m) = ap l.Bytes (omega arith)
-ahead-longer n l.RunsOff = refl
+ahead-longer n (l.Refused r) = refl
 
 module _ (s : List ℕ) (p i : ℕ) where
   pub len-start : ahead (p - p) (ulebLen s p) ≡ ulebLen s p
   len-start = rw sub-self (ahead-zero _)
 
-  pub len-off : (r : Len) → length s ≤ i → ahead (i - p) (ulebLen s i) ≡ r → l.RunsOff ≡ r
+  pub len-off : (r : Len) → length s ≤ i → ahead (i - p) (ulebLen s i) ≡ r → l.Refused NumberOutside ≡ r
   unfolding lenOf ulebLen ahead
   len-off r h e = simp (drop-off s i h) at e
 
@@ -90,6 +93,16 @@ module _ (s : List ℕ) (p i : ℕ) where
   unfolding ahead
   len-stop b r a h t q e = ap l.Bytes (omega arith) ∙ (ap (ahead (i - p)) (sym (len-done b a h t)) ∙ e)
 
+-- ---- why a reader refuses: a byte is outside the file
+abbrev pub Reason : Refusal → Type 0
+Reason r = r ≡ NumberOutside
+
+-- it never says that a lent slice is too short
+pub reason-number : (r : Refusal) → Reason r → refusalNumber r ≡ 4 → ⊥
+reason-number r e q =
+    let n : refusalNumber r ≡ 6 = ap refusalNumber e in
+    omega arith
+
 -- ---- what a number that was read keeps to
 lim : ℕ → ℕ
 lim zero = 1
@@ -108,12 +121,12 @@ record Keeps (k : ℕ) (s : List ℕ) (i v n : ℕ) : Type 0 where
 
 abbrev KeepsR : ℕ → List ℕ → ℕ → Uleb → Type 0
 KeepsR k s i (u.Number v n) = Keeps k s i v n
-KeepsR k s i u.RunsOff = Unit {0}
+KeepsR k s i (u.Refused r) = Reason r
 
 carry-keeps : (k : ℕ) (s : List ℕ) (i b : ℕ) (r : Uleb) → KeepsR k s (i + 1) r → KeepsR (suc k) s i (carry b r)
 unfolding lim
 carry-keeps k s i b (u.Number v n) h = record { value = omega arith; some = omega arith; few = omega arith; inside = omega arith }
-carry-keeps k s i b u.RunsOff h = tt
+carry-keeps k s i b (u.Refused r) h = h
 
 one-keeps : (k : ℕ) (s : List ℕ) (i b : ℕ) → i < length s → Keeps (suc k) s i (b % 128) 1
 unfolding lim
@@ -121,11 +134,11 @@ one-keeps k s i b h = record { value = omega (arith, lim-pos k); some = omega ar
 
 keeps : (k : ℕ) (s : List ℕ) (i : ℕ) → KeepsR k s i (uleb k s i)
 unfolding uleb
-keeps zero s i = tt
+keeps zero s i = refl
 keeps (suc k) s i =
     cond-elim (KeepsR (suc k) s i) (ltb i (length s)) _ _
     (λ t. cond-elim (KeepsR (suc k) s i) (ends k (byte s i)) _ _ (λ _. one-keeps k s i _ (ltb-true i _ t)) (λ _. carry-keeps k s i _ (uleb k s (i + 1)) (keeps k s (i + 1))))
-    (λ _. tt)
+    (λ _. refl)
 
 -- a number read by ulebFast: below 2 ^ 35, of 1 to 5 bytes, inside
 pub record Fast (s : List ℕ) (i v n : ℕ) : Type 0 where
@@ -140,19 +153,23 @@ fast-keeps s i v n e =
     let h : KeepsR 5 s i (u.Number v n) = subst (KeepsR 5 s i) (sym e) (keeps 5 s i) in
     record { value = h .value; some = h .some; few = h .few; inside = h .inside }
 
+pub fast-reason : (s : List ℕ) (i : ℕ) (r : Refusal) → u.Refused r ≡ ulebFast s i → Reason r
+unfolding ulebFast
+fast-reason s i r e = subst (KeepsR 5 s i) (sym e) (keeps 5 s i)
+
 -- a length: at least 1, and inside
 LenIn : ℕ → Len → Type 0
 LenIn k (l.Bytes m) = (1 ≤ m) × (m ≤ k)
-LenIn k l.RunsOff = Unit {0}
+LenIn k (l.Refused r) = Reason r
 
 longer-in : (k : ℕ) (r : Len) → LenIn k r → LenIn (suc k) (longer r)
 unfolding LenIn
 longer-in k (l.Bytes m) h = (omega arith, omega arith)
-longer-in k l.RunsOff h = tt
+longer-in k (l.Refused r) h = h
 
 lenOf-in : (s : List ℕ) → LenIn (length s) (lenOf s)
 unfolding lenOf LenIn
-lenOf-in [] = tt
+lenOf-in [] = refl
 lenOf-in (b ∷ r) = cond-elim (LenIn (suc (length r))) (ltb b 128) _ _ (λ _. (omega arith, omega arith)) (λ _. longer-in (length r) (lenOf r) (lenOf-in r))
 
 pub len-in : (s : List ℕ) (i m : ℕ) → l.Bytes m ≡ ulebLen s i → (1 ≤ m) × (i + m ≤ length s)
@@ -160,3 +177,7 @@ unfolding ulebLen LenIn
 len-in s i m e =
     let h : LenIn (length (drop i s)) (l.Bytes m) = subst (LenIn (length (drop i s))) (sym e) (lenOf-in (drop i s)) in
     (h .0, omega (arith, length-drop i s, h .0, h .1))
+
+pub len-reason : (s : List ℕ) (i : ℕ) (r : Refusal) → l.Refused r ≡ ulebLen s i → Reason r
+unfolding ulebLen LenIn
+len-reason s i r e = subst (LenIn (length (drop i s))) (sym e) (lenOf-in (drop i s))

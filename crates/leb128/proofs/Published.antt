@@ -16,7 +16,7 @@ use Rattle.leb128.specs.declared.Uleb.the-variants as u
 use Rattle.leb128.specs.declared.Len.{Len}
 use Rattle.leb128.specs.declared.Len.the-variants as l
 
--- a number ends behind its start
+-- a number ends after its start
 pub ends-behind : {s : List ℕ} {k i v e : ℕ} → Leb128 s k i v e → i < e
 ends-behind (last-byte h b) = omega arith
 ends-behind (more-bytes h b r) = omega (arith, ends-behind r)

@@ -1,20 +1,21 @@
 // Unsigned LEB128 numbers (leb128.rs): a reader that takes at most five bytes, and the length of a number of any length.
+use refusal::Refusal;
 ghost use mathlib.Core.Path.{_≡_};
 ghost use Prim.Native.Nat.{_<_};
 ghost use lib.ListN.{length};
 ghost use Rattle.structs.specs.Reads.{ByteAt};
 ghost use Rattle.leb128.specs.Leb.{ulebFast, ulebLen};
 
-// A number and how many bytes it has.
+// A number and how many bytes it has, or why it is refused.
 pub enum Uleb {
     Number { value: u64, len: usize },
-    RunsOff,
+    Refused(Refusal),
 }
 
-// How many bytes a number has.
+// How many bytes a number has, or why it is refused.
 pub enum Len {
     Bytes(usize),
-    RunsOff,
+    Refused(Refusal),
 }
 
 // A byte, as wide as the number.
@@ -31,7 +32,7 @@ pub fn read_uleb128_fast(buf: &[u8], pos: usize) -> Uleb
 {
     let n = buf.len();
     if n <= pos {
-        return Uleb::RunsOff;
+        return Uleb::Refused(Refusal::NumberOutside);
     }
     let b0 = byte_at(buf, pos);
     let v0 = b0 % 128;
@@ -40,7 +41,7 @@ pub fn read_uleb128_fast(buf: &[u8], pos: usize) -> Uleb
     }
     let p1 = pos + 1;
     if n <= p1 {
-        return Uleb::RunsOff;
+        return Uleb::Refused(Refusal::NumberOutside);
     }
     let b1 = byte_at(buf, p1);
     let v1 = v0 + b1 % 128 * 128;
@@ -49,7 +50,7 @@ pub fn read_uleb128_fast(buf: &[u8], pos: usize) -> Uleb
     }
     let p2 = p1 + 1;
     if n <= p2 {
-        return Uleb::RunsOff;
+        return Uleb::Refused(Refusal::NumberOutside);
     }
     let b2 = byte_at(buf, p2);
     let v2 = v1 + b2 % 128 * 16384;
@@ -58,7 +59,7 @@ pub fn read_uleb128_fast(buf: &[u8], pos: usize) -> Uleb
     }
     let p3 = p2 + 1;
     if n <= p3 {
-        return Uleb::RunsOff;
+        return Uleb::Refused(Refusal::NumberOutside);
     }
     let b3 = byte_at(buf, p3);
     let v3 = v2 + b3 % 128 * 2097152;
@@ -67,13 +68,11 @@ pub fn read_uleb128_fast(buf: &[u8], pos: usize) -> Uleb
     }
     let p4 = p3 + 1;
     if n <= p4 {
-        return Uleb::RunsOff;
+        return Uleb::Refused(Refusal::NumberOutside);
     }
     let b4 = byte_at(buf, p4);
-    Uleb::Number {
-        value: v3 + b4 % 128 * 268435456,
-        len: 5,
-    }
+    let v4 = v3 + b4 % 128 * 268435456;
+    Uleb::Number { value: v4, len: 5 }
 }
 
 // The bytes up to and with the first below 128, however many.
@@ -88,5 +87,5 @@ pub fn read_uleb128_len(buf: &[u8], pos: usize) -> Len
             return Len::Bytes(at - pos);
         }
     }
-    Len::RunsOff
+    Len::Refused(Refusal::NumberOutside)
 }

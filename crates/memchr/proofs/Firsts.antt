@@ -16,7 +16,8 @@ use lib.Bits.{bitOr, or-add-and, and-le-l, and-le-r}
 use lib.Dec.{ltb}
 use native.Mathlib.Omega.{arith}
 use borrow.Author.Tests.{ltb-true, ltb-false}
-use Rattle.memchr.specs.First.{First, Lane, Nearer, One, Tested, Passed, Blocks}
+use Rattle.memchr.specs.Steps.{Lane, Nearer, One, Tested, Passed, Blocks}
+use Rattle.memchr.specs.First.{First}
 
 pub split : (a b : ℕ) → (a < b) ⊎ (b ≤ a)
 split a b = go (ltb a b) refl

@@ -3,7 +3,8 @@
 ghost use mathlib.Core.Path.{_≡_};
 ghost use Prim.Native.Nat.{_+_, _-_, _≤_, min, max};
 ghost use lib.ListN.{length};
-ghost use Rattle.memchr.specs.First.{Is, Either, Both, First, Tested, Lane, Nearer, Blocks};
+ghost use Rattle.memchr.specs.Steps.{Tested, Lane, Nearer, Blocks};
+ghost use Rattle.memchr.specs.First.{Is, Either, Both, First};
 
 // At most a block.
 fn block_of(left: usize) -> u8
@@ -71,7 +72,7 @@ fn nearer_either(first: u8, i: u8, n: u8, x: u8, a: u8, b: u8) -> u8
     if k < first { k } else { first }
 }
 
-// The first place of a or b in the n bytes at a place, or the place behind them.
+// The first place of a or b in the n bytes at a place, or the place after them.
 fn first_either(a: u8, b: u8, s: &[u8], at: usize, n: u8) -> usize
     requires { ⌜ at + n ≤ length (now s) ⌝ }
     ensures { λ r. ⌜ First (Either a b (now (s .entry))) at (at + n) r ⌝ }
@@ -211,7 +212,7 @@ fn nearer_both(first: u8, i: u8, n: u8, x: u8, y: u8, a: u8, b: u8) -> u8
     if k < first { k } else { first }
 }
 
-// The first such place of n, or the place behind them.
+// The first such place of n, or the place after them.
 fn first_both(a: u8, b: u8, d: usize, s: &[u8], at: usize, n: u8) -> usize
     requires { ⌜ at + n + d ≤ length (now s) ⌝ }
     ensures { λ r. ⌜ First (Both a b d (now (s .entry))) at (at + n) r ⌝ }
@@ -227,7 +228,7 @@ fn first_both(a: u8, b: u8, d: usize, s: &[u8], at: usize, n: u8) -> usize
 }
 
 // The first place from `from` on whose byte is a and has b at the distance d, all before `end` and the slice's end; where there is
-// none, the place behind the last that leaves room for the distance.
+// none, the place after the last that leaves room for the distance.
 pub fn pair(a: u8, b: u8, d: usize, s: &[u8], from: usize, end: usize) -> usize
     ensures { λ r. ⌜ First (Both a b d (now (s .entry))) from (min end (length (now (s .entry))) - d) r ⌝ }
 {

@@ -1,8 +1,9 @@
 // The method ids by their class and by their name (method_locator.rs). Thin over `groups`.
 ghost use mathlib.Core.Path.{_≡_};
-ghost use lib.ListN.{length};
-ghost use Rattle.group_slice.specs.Stretch.{stretchOf};
-ghost use Rattle.method_locator.specs.Built.{outcome, Gives};
+ghost use Rattle.groups.specs.Stretch.{stretchOf};
+ghost use Rattle.groups.specs.Built.{groupWords};
+ghost use Rattle.method_locator.specs.Built.{methodWords, outcome, Gives};
+ghost use Rattle.method_locator.specs.Steps.{Refuses};
 use groups::Layout;
 use groups::Width;
 use refusal::Answer;
@@ -15,6 +16,28 @@ pub enum Built {
     Refused(Refusal),
 }
 
+// Nothing is left of either map.
+fn refuse(
+    clz_offsets: &mut [u32],
+    clz_mids: &mut [u32],
+    name_offsets: &mut [u32],
+    name_mids: &mut [u32],
+    why: Refusal,
+) -> Built
+    ensures { λ r.
+        let before = methodWords (groupWords (now («clz_offsets» .entry)) (now («clz_mids» .entry)))
+        (groupWords (now («name_offsets» .entry)) (now («name_mids» .entry))) in
+        let after = methodWords (groupWords (now («clz_offsets» .exit)) (now («clz_mids» .exit)))
+        (groupWords (now («name_offsets» .exit)) (now («name_mids» .exit))) in
+        ⌜ Refuses why r before after ⌝ }
+{
+    words::clear(clz_offsets);
+    words::clear(clz_mids);
+    words::clear(name_offsets);
+    words::clear(name_mids);
+    Built::Refused(why)
+}
+
 // The method ids grouped by class_idx, below the number of types, and by name_idx, below the number of strings. Where one of the two
 // refuses, nothing is left of the other.
 pub fn build_map(
@@ -25,7 +48,12 @@ pub fn build_map(
     name_offsets: &mut [u32],
     name_mids: &mut [u32],
 ) -> Built
-    ensures { λ r. ⌜ Gives (outcome (now (s .entry)) header (length (now («clz_offsets» .entry))) (length (now («clz_mids» .entry))) (length (now («name_offsets» .entry))) (length (now («name_mids» .entry)))) r (now («clz_offsets» .entry)) (now («clz_offsets» .exit)) (now («clz_mids» .entry)) (now («clz_mids» .exit)) (now («name_offsets» .entry)) (now («name_offsets» .exit)) (now («name_mids» .entry)) (now («name_mids» .exit)) ⌝ }
+    ensures gives { λ r.
+        let before = methodWords (groupWords (now («clz_offsets» .entry)) (now («clz_mids» .entry)))
+        (groupWords (now («name_offsets» .entry)) (now («name_mids» .entry))) in
+        let after = methodWords (groupWords (now («clz_offsets» .exit)) (now («clz_mids» .exit)))
+        (groupWords (now («name_offsets» .exit)) (now («name_mids» .exit))) in
+        ⌜ Gives (outcome (now (s .entry)) header before) r before after ⌝ }
 {
     let methods = header.methods;
     let clz_layout = Layout {
@@ -55,17 +83,9 @@ pub fn build_map(
         name_mids,
     );
     match by_clz {
-        Answer::Refused(r) => {
-            words::clear(name_offsets);
-            words::clear(name_mids);
-            Built::Refused(r)
-        }
+        Answer::Refused(why) => refuse(clz_offsets, clz_mids, name_offsets, name_mids, why),
         Answer::Done(clz) => match by_name {
-            Answer::Refused(r) => {
-                words::clear(clz_offsets);
-                words::clear(clz_mids);
-                Built::Refused(r)
-            }
+            Answer::Refused(why) => refuse(clz_offsets, clz_mids, name_offsets, name_mids, why),
             Answer::Done(name) => Built::Done { clz, name },
         },
     }
@@ -75,12 +95,12 @@ pub fn build_map(
 pub fn clz_slice<'a>(clz_offsets: &[u32], clz_mids: &'a [u32], class_idx: u32) -> &'a [u32]
     ensures { λ r. ⌜ now r ≡ stretchOf (now («clz_offsets» .entry)) (now («clz_mids» .entry)) «class_idx» ⌝ }
 {
-    group_slice::slice(clz_offsets, clz_mids, class_idx)
+    groups::slice::slice(clz_offsets, clz_mids, class_idx)
 }
 
 // The methods of a name, as a part of the grouped method ids.
 pub fn name_slice<'a>(name_offsets: &[u32], name_mids: &'a [u32], name_idx: u32) -> &'a [u32]
     ensures { λ r. ⌜ now r ≡ stretchOf (now («name_offsets» .entry)) (now («name_mids» .entry)) «name_idx» ⌝ }
 {
-    group_slice::slice(name_offsets, name_mids, name_idx)
+    groups::slice::slice(name_offsets, name_mids, name_idx)
 }

@@ -2,40 +2,27 @@
 // and whose name is among the strings found. An empty class or name is absent and asks for nothing.
 use refusal::Answer;
 use refusal::Refusal;
-use rising::Insertion;
-use string_search::Fault;
-use structs::Read16;
-use structs::Read32;
 use tinydex::DexHeader;
 use tinydex::Table;
+use word_set::Fault;
+use word_set::Insertion;
 ghost use mathlib.Core.Path.{_≡_};
-ghost use mathlib.Core.Bool.{true};
-ghost use Prim.Native.Nat.{_+_, _≤_, max};
-ghost use lib.ListN.{length};
-ghost use Rattle.dalvik.specs.Numbers.{le16, le32};
-ghost use Rattle.groups.specs.Built.{passes};
+ghost use Prim.Native.Nat.{_≤_, max};
+ghost use lib.ListN.{length, take};
+ghost use Rattle.words.specs.Padded.{zeros};
 ghost use Rattle.words.specs.Rising.{Rising};
-ghost use Rattle.rising.specs.Rising.{In};
-ghost use Rattle.rising.specs.Found.{Found, Matched};
-ghost use Rattle.string_search.specs.Search.{Decides, Owns, faultNumber, searchFault};
-ghost use Rattle.method_search.specs.Methods.{Among, Fits, Fitting, askedCount, Inside, Ready, Stepped, Chosen, Selected, Begun, Searched, methodFault, settles};
+ghost use Rattle.groups.specs.Built.{groupWords};
+ghost use Rattle.word_set.specs.Decides.{Decides};
+ghost use Rattle.word_set.specs.Found.{Found, Matched, faultNumber};
+ghost use Rattle.string_search.specs.Search.{area, Owns, searchFault};
+ghost use Rattle.method_search.specs.Methods.{query, searchFor, searchWords, Searched, methodFault, settles};
+ghost use Rattle.method_search.specs.Steps.{Begun, Among, sieve, Fits, Fitting, askedCount, Risen, Stepped, Chosen, Selected};
 
 // The longer of two lengths.
 fn longer(a: usize, b: usize) -> usize
     ensures { λ r. ⌜ r ≡ max a b ⌝ }
 {
     if a < b { b } else { a }
-}
-
-// Whether the method ids pass the end of the file.
-fn passes_end(len: usize, table: Table) -> bool
-    ensures { λ r. ⌜ r ≡ passes len table 8 ⌝ }
-{
-    if 0 < table.size {
-        (len as u64) < table.end(8)
-    } else {
-        false
-    }
 }
 
 // What speaks against the search before it begins.
@@ -46,30 +33,10 @@ fn method_fault(file: &[u8], methods: Table, keys: &[u64], class: &[u8], name: &
     if let Fault::Refused(why) = fault {
         return Fault::Refused(why);
     }
-    if passes_end(file.len(), methods) {
+    if groups::passes_end(file.len(), methods, 8) {
         return Fault::Refused(Refusal::TableOutside);
     }
     Fault::Nothing
-}
-
-fn half(file: &[u8], at: usize) -> u32
-    requires { ⌜ at + 2 ≤ length (now file) ⌝ }
-    ensures { λ r. ⌜ r ≡ le16 (now (file .entry)) at ⌝ }
-{
-    let Read16::Value(value) = structs::read_u16(file, at) else {
-        return 0;
-    };
-    value as u32
-}
-
-fn word(file: &[u8], at: usize) -> u32
-    requires { ⌜ at + 4 ≤ length (now file) ⌝ }
-    ensures { λ r. ⌜ r ≡ le32 (now (file .entry)) at ⌝ }
-{
-    let Read32::Value(value) = structs::read_u32(file, at) else {
-        return 0;
-    };
-    value
 }
 
 // Whether an index is among those found, or nothing was asked.
@@ -78,7 +45,7 @@ fn among(asked: bool, found: &[u32], index: u32) -> bool
     ensures { λ r. ⌜ Decides (Among asked (now (found .entry)) index) r ⌝ }
 {
     if asked {
-        return rising::contains(found, index);
+        return word_set::contains(found, index);
     }
     true
 }
@@ -93,12 +60,14 @@ fn method_fits(
     by_name: bool,
     names: &[u32],
 ) -> bool
-    requires { ⌜ Inside (now file) off i (now types) (now names) ⌝ }
-    ensures { λ r. ⌜ Decides (Fits (now (file .entry)) off «by_class» (now (types .entry)) «by_name» (now (names .entry)) i) r ⌝ }
+    requires { ⌜ Risen (now types) (now names) ⌝ }
+    ensures { λ r.
+        let fits = Fits (sieve (now (file .entry)) off «by_class» (now (types .entry)) «by_name» (now (names .entry))) i in
+        ⌜ Decides fits r ⌝ }
 {
     let at = (off as usize) + 8 * (i as usize);
-    if among(by_class, types, half(file, at)) {
-        return among(by_name, names, word(file, at + 4));
+    if among(by_class, types, structs::u16_at(file, at)) {
+        return among(by_name, names, structs::u32_at(file, at + 4));
     }
     false
 }
@@ -115,11 +84,13 @@ fn method_step(
     out: &mut [u32],
     n: usize,
 ) -> Insertion
-    requires { ⌜ Inside (now file) off i (now types) (now names) ⌝ }
-    ensures { λ r. ⌜ Stepped (Fits (now (file .entry)) off «by_class» (now (types .entry)) «by_name» (now (names .entry)) i) i n (now (out .entry)) (now (out .exit)) r ⌝ }
+    requires { ⌜ Risen (now types) (now names) ⌝ }
+    ensures { λ r.
+        let fits = Fits (sieve (now (file .entry)) off «by_class» (now (types .entry)) «by_name» (now (names .entry))) i in
+        ⌜ Stepped fits i n (now (out .entry)) (now (out .exit)) r ⌝ }
 {
     if method_fits(file, off, i, by_class, types, by_name, names) {
-        return rising::insert(out, n, i);
+        return word_set::insert(out, n, i);
     }
     Insertion::Held(n)
 }
@@ -147,8 +118,10 @@ fn collect(
     names: &[u32],
     out: &mut [u32],
 ) -> Insertion
-    requires { ⌜ Ready (now file) methods (now types) (now names) (now out) ⌝ }
-    ensures { λ r. ⌜ Matched (Fitting (now (file .entry)) (methods .off) (askedCount (methods .size) «by_class» «by_name») «by_class» (now (types .entry)) «by_name» (now (names .entry))) (now (out .entry)) (now (out .exit)) r ⌝ }
+    requires { ⌜ Risen (now types) (now names) × (now out ≡ zeros (length (now out))) ⌝ }
+    ensures { λ r.
+        let fits = sieve (now (file .entry)) (methods .off) «by_class» (now (types .entry)) «by_name» (now (names .entry)) in
+        ⌜ Matched (Fitting fits (askedCount (methods .size) «by_class» «by_name»)) (now (out .entry)) (now (out .exit)) r ⌝ }
 {
     let off = methods.off;
     let count = asked_count(methods.size, by_class, by_name);
@@ -174,7 +147,10 @@ fn locate_name(
     name: &[u8],
     names: &mut [u32],
 ) -> Answer
-    ensures { λ r. ⌜ Found (Owns (now (file .entry)) (now (keys .entry)) start end (now (name .entry))) (searchFault (length (now (file .entry))) 0 (length (now (name .entry))) (now (keys .entry))) r (now (names .entry)) (now (names .exit)) ⌝ }
+    ensures { λ r.
+        let searched = area (now (file .entry)) (now (keys .entry)) start end in
+        let fault = searchFault (length (now (file .entry))) 0 (length (now (name .entry))) (now (keys .entry)) in
+        ⌜ Found (Owns searched (now (name .entry))) fault r (now (names .entry)) (now (names .exit)) ⌝ }
 {
     if name.len() == 0 {
         words::clear(names);
@@ -199,8 +175,12 @@ fn select(
     n: usize,
     out: &mut [u32],
 ) -> Answer
-    requires { ⌜ Chosen (now file) methods (now «of_class») t (now «of_name») n (now out) ⌝ }
-    ensures { λ r. ⌜ Selected (now (file .entry)) methods «by_class» (now («of_class» .entry)) (now («of_class» .exit)) t «by_name» (now («of_name» .entry)) (now («of_name» .exit)) n r (now (out .entry)) (now (out .exit)) ⌝ }
+    requires { ⌜ Chosen t n (searchWords (now «of_name») (now «of_class») (now out)) ⌝ }
+    ensures { λ r.
+        let fits = sieve (now (file .entry)) (methods .off) «by_class» (take t (now («of_class» .entry))) «by_name» (take n (now («of_name» .entry))) in
+        let before = searchWords (now («of_name» .entry)) (now («of_class» .entry)) (now (out .entry)) in
+        let after = searchWords (now («of_name» .exit)) (now («of_class» .exit)) (now (out .exit)) in
+        ⌜ Selected fits (methods .size) r before after ⌝ }
 {
     let found = collect(
         file,
@@ -220,7 +200,7 @@ fn select(
     Answer::Done(m)
 }
 
-// Whether a class of so many bytes whose strings name so many types settles the result: it is given, and no method fits.
+// Whether a class of `class` bytes whose strings name `types` types settles the result: it is given, and no method fits.
 fn settled(class: usize, types: usize) -> bool
     ensures { λ r. ⌜ r ≡ settles class types ⌝ }
 {
@@ -242,8 +222,15 @@ fn search(
     types: &mut [u32],
     out: &mut [u32],
 ) -> Answer
-    requires { ⌜ Begun (now file) methods (now keys) (now class) (now name) (now out) ⌝ }
-    ensures { λ r. ⌜ Searched (now (file .entry)) methods (now (keys .entry)) start end (now (class .entry)) (now (name .entry)) (now («str_offsets» .entry)) (now («type_idxs» .entry)) r (now (strings .entry)) (now (strings .exit)) (now (types .entry)) (now (types .exit)) (now (out .entry)) (now (out .exit)) ⌝ }
+    requires { let searched = area (now file) (now keys) start end in
+        let table = groupWords (now «str_offsets») (now «type_idxs») in
+        ⌜ Begun (searchFor searched (query (now class) (now name)) table methods) (now out) ⌝ }
+    ensures { λ r.
+        let searched = area (now (file .entry)) (now (keys .entry)) start end in
+        let table = groupWords (now («str_offsets» .entry)) (now («type_idxs» .entry)) in
+        let before = searchWords (now (strings .entry)) (now (types .entry)) (now (out .entry)) in
+        let after = searchWords (now (strings .exit)) (now (types .exit)) (now (out .exit)) in
+        ⌜ Searched (searchFor searched (query (now (class .entry)) (now (name .entry))) table methods) r before after ⌝ }
 {
     let Answer::Done(t) = type_search::locate(
         file,
@@ -293,7 +280,12 @@ pub fn locate(
     types: &mut [u32],
     out: &mut [u32],
 ) -> Answer
-    ensures { λ r. ⌜ Searched (now (file .entry)) (header .methods) (now (keys .entry)) start end (now (class .entry)) (now (name .entry)) (now («str_offsets» .entry)) (now («type_idxs» .entry)) r (now (strings .entry)) (now (strings .exit)) (now (types .entry)) (now (types .exit)) (now (out .entry)) (now (out .exit)) ⌝ }
+    ensures gives { λ r.
+        let searched = area (now (file .entry)) (now (keys .entry)) start end in
+        let table = groupWords (now («str_offsets» .entry)) (now («type_idxs» .entry)) in
+        let before = searchWords (now (strings .entry)) (now (types .entry)) (now (out .entry)) in
+        let after = searchWords (now (strings .exit)) (now (types .exit)) (now (out .exit)) in
+        ⌜ Searched (searchFor searched (query (now (class .entry)) (now (name .entry))) table (header .methods)) r before after ⌝ }
 {
     words::clear(out);
     let methods = header.methods;

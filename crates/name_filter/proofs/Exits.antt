@@ -13,11 +13,12 @@ use Rattle.refusal.specs.declared.Refusal.the-variants.{LentTooShort}
 use Rattle.refusal.specs.declared.Answer.{Answer}
 use Rattle.refusal.specs.declared.Answer.the-variants as answer
 use Rattle.refusal.specs.Refusals.{refusalNumber}
-use Rattle.rising.specs.Found.{Found}
-use Rattle.rising.proofs.Found.{found-refused, found-short, found-all}
-use Rattle.name_faults.specs.Faults.{firstFault, headFault, filterFault}
-use Rattle.name_faults.proofs.Faults.{filter-known}
-use Rattle.name_filter.specs.Names.{Named, Sifted, done, short, stopped, Refuses}
+use Rattle.word_set.specs.Found.{Found}
+use Rattle.word_set.proofs.Found.{found-refused, found-short, found-all}
+use Rattle.name_filter.specs.Faults.{firstFault, headFault, filterFault}
+use Rattle.name_filter.proofs.Faults.{filter-known}
+use Rattle.name_filter.specs.Steps.{Sifted, done, short, stopped, Refuses}
+use Rattle.name_filter.specs.Names.{Named}
 use Rattle.name_filter.proofs.Listing.{named-listed}
 
 -- the header's words as the code has them

@@ -4,9 +4,9 @@ use Prim.Native.Nat.{ℕ}
 use mathlib.Core.Path.{_≡_, sym, subst}
 use mathlib.Core.Logic.{_⊎_, inl, inr, ⊎-elim}
 use mathlib.Core.List.{List, [], _∷_}
-use Rattle.rising.specs.Rising.{In}
-use Rattle.rising.proofs.Sets.{in-none, in-here, in-cons, in-cases, Listed, set-none, set-with, set-same}
-use Rattle.matches_name.proofs.Listing.{has-or-not}
+use Rattle.word_set.specs.Sets.{In}
+use Rattle.word_set.proofs.Sets.{in-none, in-here, in-cons, in-cases, Listed, set-none, set-with, set-same}
+use Rattle.name_filter.proofs.HasOrNot.{has-or-not}
 use Rattle.name_filter.specs.Names.{nameText, Named}
 
 -- the given indices of a kind

@@ -17,16 +17,18 @@ use Rattle.refusal.specs.declared.Refusal.{Refusal}
 use Rattle.refusal.specs.declared.Refusal.the-variants.{StringIndex}
 use Rattle.refusal.specs.Refusals.{refusalNumber}
 use Rattle.refusal.proofs.Numbers.{numbered}
-use Rattle.rising.specs.Rising.{In}
-use Rattle.rising.proofs.Sets.{below-or-not}
+use Rattle.word_set.specs.Sets.{In}
+use Rattle.word_set.proofs.Sets.{below-or-not}
 use Rattle.index_set.specs.Bits.{isHeld, Adds}
-use Rattle.string_search.specs.declared.Fault.{Fault}
-use Rattle.string_search.specs.declared.Fault.the-variants as fault
-use Rattle.string_search.specs.Search.{Decides, faultNumber}
-use Rattle.matches_name.specs.Names.{HasName}
-use Rattle.name_faults.specs.Faults.{firstFault}
-use Rattle.name_faults.proofs.Faults.{fault-end, fault-index, fault-text, fault-next}
-use Rattle.name_filter.specs.Names.{nameText, faultOf, Noted, Room, Marks, Looked, Unmarked, Seen, AllLooked}
+use Rattle.word_set.specs.declared.Fault.{Fault}
+use Rattle.word_set.specs.declared.Fault.the-variants as fault
+use Rattle.word_set.specs.Decides.{Decides}
+use Rattle.word_set.specs.Found.{faultNumber}
+use Rattle.name_filter.specs.HasName.{HasName}
+use Rattle.name_filter.specs.Faults.{firstFault}
+use Rattle.name_filter.proofs.Faults.{fault-end, fault-index, fault-text, fault-next}
+use Rattle.name_filter.specs.Steps.{Names, faultOf, HasNameAt, Noted, Room, Marks, Looked, Unmarked, Seen, AllLooked}
+use Rattle.name_filter.specs.Names.{nameText}
 
 pub nonzero : (why : Refusal) → refusalNumber why ≡ 0 → ⊥
 nonzero why z = eqb-false (refusalNumber why) 0 (numbered why) z
@@ -61,19 +63,19 @@ module _ {x : ℕ} {seen has seen′ : List ℕ} {r : Bool} (a : Adds x seen see
   pub noted-both : b ≡ true → {has′ : List ℕ} {v : Bool} → Adds x has has′ v → Noted x b seen has seen′ has′
   noted-both e d = record { seen-at = joined x a (omega (arith, m .for-seen)); has-at = λ y. rw e (joined x d (omega (arith, m .for-has)) y) }
 
-module _ {s : List ℕ} {table : ℕ} {q : List ℕ} where
-  pub marks-none : {seen has : List ℕ} → ((x : ℕ) → isHeld seen x ≡ false) → ((x : ℕ) → isHeld has x ≡ false) → Marks s table q seen has
+module _ {k : Names} where
+  pub marks-none : {seen has : List ℕ} → ((x : ℕ) → isHeld seen x ≡ false) → ((x : ℕ) → isHeld has x ≡ false) → Marks k seen has
   marks-none n m = record { good = λ x t. absurd (clash t (n x)); says = λ x t. absurd (clash t (n x)); among = λ x t. absurd (clash t (m x)) }
 
   -- one string
-  module _ {seen has : List ℕ} (x : ℕ) (t : Marks s table q seen has) where
-    pub look-known : isHeld seen x ≡ true → Looked s table q x seen seen has fault.Nothing
-    look-known h = record { fault = t .good x h; marks = t; now-seen = λ z. h; kept = λ y k. k; only = λ y k. inl k }
+  module _ {seen has : List ℕ} (x : ℕ) (t : Marks k seen has) where
+    pub look-known : isHeld seen x ≡ true → Looked k x seen seen has fault.Nothing
+    look-known h = record { fault = t .good x h; marks = t; now-seen = λ z. h; kept = λ y z. z; only = λ y z. inl z }
 
-    pub look-refused : (why : Refusal) → refusalNumber why ≡ faultOf s table q x → Looked s table q x seen seen has (fault.Refused why)
-    look-refused why e = record { fault = e; marks = t; now-seen = λ z. absurd (nonzero why z); kept = λ y k. k; only = λ y k. inl k }
+    pub look-refused : (why : Refusal) → refusalNumber why ≡ faultOf k x → Looked k x seen seen has (fault.Refused why)
+    look-refused why e = record { fault = e; marks = t; now-seen = λ z. absurd (nonzero why z); kept = λ y z. z; only = λ y z. inl z }
 
-    module _ (new : isHeld seen x ≡ false) (b : Bool) (e : 0 ≡ faultOf s table q x) (d : Decides (HasName (nameText s table x) q) b) {seen′ has′ : List ℕ} (n : Noted x b seen has seen′ has′) where
+    module _ (new : isHeld seen x ≡ false) (b : Bool) (e : 0 ≡ faultOf k x) (d : Decides (HasNameAt k x) b) {seen′ has′ : List ℕ} (n : Noted x b seen has seen′ has′) where
       seen-here : isHeld seen′ x ≡ true
       seen-here = n .seen-at x ∙ ap (λ (c : Bool). isHeld seen x || c) (eq-eqb x x refl) ∙ or-true (isHeld seen x)
 
@@ -90,18 +92,18 @@ module _ {s : List ℕ} {table : ℕ} {q : List ℕ} where
       has-there : (y : ℕ) → eqb y x ≡ false → isHeld has′ y ≡ isHeld has y
       has-there y f = n .has-at y ∙ ap (λ (c : Bool). isHeld has y || (b && c)) f ∙ ap (λ (c : Bool). isHeld has y || c) (and-false b) ∙ or-false (isHeld has y)
 
-      marks-now : Marks s table q seen′ has′
+      marks-now : Marks k seen′ has′
       marks-now = record {
-        good = λ y h. ⊎-elim (λ (f : eqb y x ≡ true). subst (λ (z : ℕ). 0 ≡ faultOf s table q z) (sym (eqb-true y x f)) e)
+        good = λ y h. ⊎-elim (λ (f : eqb y x ≡ true). subst (λ (z : ℕ). 0 ≡ faultOf k z) (sym (eqb-true y x f)) e)
             (λ (f : eqb y x ≡ false). t .good y (sym (seen-there y f) ∙ h)) (case (eqb y x));
         says = λ y h. ⊎-elim
-            (λ (f : eqb y x ≡ true). subst (λ (z : ℕ). Decides (HasName (nameText s table z) q) (isHeld has′ z)) (sym (eqb-true y x f)) (subst (Decides (HasName (nameText s table x) q)) (sym has-here) d))
-            (λ (f : eqb y x ≡ false). subst (Decides (HasName (nameText s table y) q)) (sym (has-there y f)) (t .says y (sym (seen-there y f) ∙ h))) (case (eqb y x));
+            (λ (f : eqb y x ≡ true). subst (λ (z : ℕ). Decides (HasNameAt k z) (isHeld has′ z)) (sym (eqb-true y x f)) (subst (Decides (HasNameAt k x)) (sym has-here) d))
+            (λ (f : eqb y x ≡ false). subst (Decides (HasNameAt k y)) (sym (has-there y f)) (t .says y (sym (seen-there y f) ∙ h))) (case (eqb y x));
         among = λ y h. ⊎-elim (λ (f : eqb y x ≡ true). subst (λ (z : ℕ). isHeld seen′ z ≡ true) (sym (eqb-true y x f)) seen-here)
             (λ (f : eqb y x ≡ false). seen-there y f ∙ t .among y (sym (has-there y f) ∙ h)) (case (eqb y x));
       }
 
-      pub look-noted : Looked s table q x seen seen′ has′ fault.Nothing
+      pub look-noted : Looked k x seen seen′ has′ fault.Nothing
       look-noted = record {
         fault = e;
         marks = marks-now;
@@ -111,18 +113,18 @@ module _ {s : List ℕ} {table : ℕ} {q : List ℕ} where
       }
 
 -- the given indices, one after another: the ways out
-module _ {s : List ℕ} (count : ℕ) {table : ℕ} {q : List ℕ} (given : List ℕ) {seen has : List ℕ} where
-  all-refused : (why : Refusal) → refusalNumber why ≡ firstFault s count table (ltb 0 (length q)) given → Marks s table q seen has → AllLooked s count table q given seen has (fault.Refused why)
+module _ {k : Names} (count : ℕ) (given : List ℕ) {seen has : List ℕ} where
+  all-refused : (why : Refusal) → refusalNumber why ≡ firstFault (k .file) count (k .table) (ltb 0 (length (k .query))) given → Marks k seen has → AllLooked k count given seen has (fault.Refused why)
   all-refused why e t = record { fault = e; marks = t; seen-all = λ z. absurd (nonzero why z) }
 
-  all-none : (i : ℕ) → 0 ≡ firstFault s count table (ltb 0 (length q)) given → Marks s table q seen has → Seen given seen i → length given ≤ i → AllLooked s count table q given seen has fault.Nothing
-  all-none i e t n h = record { fault = e; marks = t; seen-all = λ z. record { all = λ k l. n .all k (omega arith); only = n .only } }
+  all-none : (i : ℕ) → 0 ≡ firstFault (k .file) count (k .table) (ltb 0 (length (k .query))) given → Marks k seen has → Seen given seen i → length given ≤ i → AllLooked k count given seen has fault.Nothing
+  all-none i e t n h = record { fault = e; marks = t; seen-all = λ z. record { all = λ j l. n .all j (omega arith); only = n .only } }
 
 -- .. and one step
 seen-none : (given : List ℕ) {seen : List ℕ} → ((x : ℕ) → isHeld seen x ≡ false) → Seen given seen 0
 seen-none given z = record { all = λ k h. absurd (omega arith); only = λ x h. absurd (clash h (z x)) }
 
-module _ {s : List ℕ} {table : ℕ} {q : List ℕ} (given : List ℕ) (i : ℕ) {seen seen′ has′ : List ℕ} {r : Fault} (h : i < length given) (k : Looked s table q (getD given i 0) seen seen′ has′ r) where
+module _ {n : Names} (given : List ℕ) (i : ℕ) {seen seen′ has′ : List ℕ} {r : Fault} (h : i < length given) (k : Looked n (getD given i 0) seen seen′ has′ r) where
   seen-next : faultNumber r ≡ 0 → Seen given seen i → Seen given seen′ (i + 1)
   seen-next z sn = record {
     all = λ j l. ⊎-elim (λ (a : j < i). k .kept _ (sn .all j a))
@@ -130,17 +132,25 @@ module _ {s : List ℕ} {table : ℕ} {q : List ℕ} (given : List ℕ) (i : ℕ
     only = λ x l. ⊎-elim (λ (a : isHeld seen x ≡ true). sn .only x a) (λ (e : x ≡ getD given i 0). subst (λ (y : ℕ). In y given) (sym e) record { at = i; inside = h; is = refl }) (k .only x l);
   }
 
--- the indices before the i-th
-pub record Passed (s : List ℕ) (count table : ℕ) (q given seen₀ has₀ seen has : List ℕ) (i : ℕ) : Type 0 where
-  pub rest : firstFault s count table (ltb 0 (length q)) (drop i given) ≡ firstFault s count table (ltb 0 (length q)) given
-  pub inside : i ≤ length given
-  pub marks : Marks s table q seen has
-  pub seen-so-far : Seen given seen i
-  pub long-seen : length seen ≡ length seen₀
-  pub long-has : length has ≡ length has₀
+-- the two sets
+pub record Bits : Type 0 where
+  pub seen : List ℕ
+  pub has : List ℕ
 
-pub passed-none : {s : List ℕ} {count table : ℕ} (q given : List ℕ) {seen has : List ℕ} → Unmarked s count table seen has → Passed s count table q given seen has seen has 0
-passed-none q given u = record {
+abbrev pub bits : List ℕ → List ℕ → Bits
+bits s h = record { seen = s; has = h }
+
+-- the indices before the i-th
+pub record Passed (k : Names) (count : ℕ) (given : List ℕ) (before after : Bits) (i : ℕ) : Type 0 where
+  pub rest : firstFault (k .file) count (k .table) (ltb 0 (length (k .query))) (drop i given) ≡ firstFault (k .file) count (k .table) (ltb 0 (length (k .query))) given
+  pub inside : i ≤ length given
+  pub marks : Marks k (after .seen) (after .has)
+  pub seen-so-far : Seen given (after .seen) i
+  pub long-seen : length (after .seen) ≡ length (before .seen)
+  pub long-has : length (after .has) ≡ length (before .has)
+
+pub passed-none : {k : Names} {count : ℕ} (given : List ℕ) {seen has : List ℕ} → Unmarked count seen has → Passed k count given (bits seen has) (bits seen has) 0
+passed-none given u = record {
   rest = refl;
   inside = omega arith;
   marks = marks-none (u .none-seen) (u .none-has);
@@ -149,24 +159,24 @@ passed-none q given u = record {
   long-has = refl;
 }
 
-module _ {s : List ℕ} {count table : ℕ} {q given seen₀ has₀ seen has : List ℕ} {i : ℕ} (p : Passed s count table q given seen₀ has₀ seen has i) where
-  pub passed-all : length given ≤ i → AllLooked s count table q given seen has fault.Nothing
-  passed-all h = all-none count given i (fault-end s count table (ltb 0 (length q)) given i h ∙ p .rest) (p .marks) (p .seen-so-far) h
+module _ {k : Names} {count : ℕ} {given seen has : List ℕ} {before : Bits} {i : ℕ} (p : Passed k count given before (bits seen has) i) where
+  pub passed-all : length given ≤ i → AllLooked k count given seen has fault.Nothing
+  passed-all h = all-none count given i (fault-end (k .file) count (k .table) (ltb 0 (length (k .query))) given i h ∙ p .rest) (p .marks) (p .seen-so-far) h
 
   module _ (h : i < length given) where
-    pub passed-index : count ≤ getD given i 0 → AllLooked s count table q given seen has (fault.Refused StringIndex)
-    passed-index l = all-refused count given StringIndex (fault-index s count table (ltb 0 (length q)) given i h l ∙ p .rest) (p .marks)
+    pub passed-index : count ≤ getD given i 0 → AllLooked k count given seen has (fault.Refused StringIndex)
+    passed-index l = all-refused count given StringIndex (fault-index (k .file) count (k .table) (ltb 0 (length (k .query))) given i h l ∙ p .rest) (p .marks)
 
-    module _ (l : getD given i 0 < count) {seen′ has′ : List ℕ} {r : Fault} (k : Looked s table q (getD given i 0) seen seen′ has′ r) where
-      pub passed-fault : (why : Refusal) → r ≡ fault.Refused why → AllLooked s count table q given seen′ has′ (fault.Refused why)
-      passed-fault why e = all-refused count given why (fault-text s count table (ltb 0 (length q)) given i h l why (sym (ap faultNumber e) ∙ k .fault) ∙ p .rest) (k .marks)
+    module _ (l : getD given i 0 < count) {seen′ has′ : List ℕ} {r : Fault} (look : Looked k (getD given i 0) seen seen′ has′ r) where
+      pub passed-fault : (why : Refusal) → r ≡ fault.Refused why → AllLooked k count given seen′ has′ (fault.Refused why)
+      passed-fault why e = all-refused count given why (fault-text (k .file) count (k .table) (ltb 0 (length (k .query))) given i h l why (sym (ap faultNumber e) ∙ look .fault) ∙ p .rest) (look .marks)
 
-      pub passed-next : r ≡ fault.Nothing → length seen′ ≡ length seen → length has′ ≡ length has → Passed s count table q given seen₀ has₀ seen′ has′ (i + 1)
+      pub passed-next : r ≡ fault.Nothing → length seen′ ≡ length seen → length has′ ≡ length has → Passed k count given before (bits seen′ has′) (i + 1)
       passed-next e a b = record {
-        rest = sym (fault-next s count table (ltb 0 (length q)) given i h l (sym (ap faultNumber e) ∙ k .fault)) ∙ p .rest;
+        rest = sym (fault-next (k .file) count (k .table) (ltb 0 (length (k .query))) given i h l (sym (ap faultNumber e) ∙ look .fault)) ∙ p .rest;
         inside = omega arith;
-        marks = k .marks;
-        seen-so-far = seen-next given i h k (ap faultNumber e) (p .seen-so-far);
+        marks = look .marks;
+        seen-so-far = seen-next given i h look (ap faultNumber e) (p .seen-so-far);
         long-seen = a ∙ p .long-seen;
         long-has = b ∙ p .long-has;
       }

@@ -12,26 +12,26 @@ use Rattle.words.specs.Padded.{zeros}
 use Rattle.words.proofs.Shared.{case}
 use Rattle.refusal.specs.declared.Refusal.the-variants.{LentTooShort}
 use Rattle.refusal.specs.declared.Answer.the-variants as answer
-use Rattle.rising.specs.Rising.{In, Joins}
-use Rattle.rising.specs.Found.{Whole, Matched, all, over}
-use Rattle.rising.specs.declared.Insertion.{Insertion}
-use Rattle.rising.specs.declared.Insertion.the-variants.{Held, Full}
-use Rattle.rising.proofs.Found.{matched-same}
-use Rattle.rising.proofs.Joins.{holding-none, joined-none}
+use Rattle.word_set.specs.Sets.{In, Joins}
+use Rattle.word_set.specs.Found.{Whole, Matched, all, over}
+use Rattle.word_set.specs.declared.Insertion.{Insertion}
+use Rattle.word_set.specs.declared.Insertion.the-variants.{Held, Full}
+use Rattle.word_set.proofs.Found.{matched-same}
+use Rattle.word_set.proofs.Joins.{holding-none, joined-none}
 use Rattle.index_set.specs.Bits.{isHeld, indices}
 use Rattle.index_set.proofs.Bits.{held-zeros}
 use Rattle.index_set.proofs.Gathering.{gathered}
-use Rattle.string_search.specs.declared.Fault.{Fault}
-use Rattle.string_search.specs.Search.{faultNumber}
-use Rattle.name_filter.specs.Names.{Named, AllLooked, Begun, Counted, SiftedOf, done, short}
+use Rattle.word_set.specs.declared.Fault.{Fault}
+use Rattle.word_set.specs.Found.{faultNumber}
+use Rattle.name_filter.specs.Steps.{Names, AllLooked, Begun, Counted, SiftedOf, done, short}
+use Rattle.name_filter.specs.Names.{Named}
 
 -- empty sets with a bit for each string
-pub begun : (n : ℕ) {most : ℕ} {s : List ℕ} {count table : ℕ} {out : List ℕ} → n ≤ 67108864 → most ≤ 64 * n → Counted most s count table out → Begun s count table (zeros n) (zeros n) out
+pub begun : (n : ℕ) {most count : ℕ} {out : List ℕ} → n ≤ 67108864 → most ≤ 64 * n → Counted most count out → Begun count (zeros n) (zeros n) out
 begun n l m c =
     let e : length (zeros n) ≡ n = length-replicate n 0 in
     record {
       unmarked = record {
-        ids = c .ids;
         room = record { for-seen = omega (arith, c .few); for-has = omega (arith, c .few) };
         none-seen = held-zeros n;
         none-has = held-zeros n;
@@ -40,32 +40,32 @@ begun n l m c =
       clear = c .clear;
     }
 
-module _ {s : List ℕ} {count table : ℕ} {q given seen has : List ℕ} {r : Fault} (a : AllLooked s count table q given seen has r) (z : faultNumber r ≡ 0) where
-  held-named : (x : ℕ) → isHeld has x ≡ true → Named s table q given x
+module _ {k : Names} {count : ℕ} {given seen has : List ℕ} {r : Fault} (a : AllLooked k count given seen has r) (z : faultNumber r ≡ 0) where
+  held-named : (x : ℕ) → isHeld has x ≡ true → Named (k .file) (k .table) (k .query) given x
   held-named x h =
       let l = a .marks .among x h in
       record { listed = a .seen-all z .only x l; has = a .marks .says x l .yes h }
 
-  named-held : (x : ℕ) → Named s table q given x → isHeld has x ≡ true
+  named-held : (x : ℕ) → Named (k .file) (k .table) (k .query) given x → isHeld has x ≡ true
   named-held x n =
       let i = n .listed in
       let l : isHeld seen x ≡ true = subst (λ (y : ℕ). isHeld seen y ≡ true) (i .is) (a .seen-all z .all (i .at) (i .inside)) in
       ⊎-elim (λ (t : isHeld has x ≡ true). t) (λ (t : isHeld has x ≡ false). absurd (a .marks .says x l .no t (n .has))) (case (isHeld has x))
 
   module _ {out after : List ℕ} {g : Insertion} (small : length has ≤ 67108864) (clear : out ≡ zeros (length out)) (j : Joins (indices has) 0 out after g) where
-    named : Matched (Named s table q given) out after g
+    named : Matched (Named (k .file) (k .table) (k .query) given) out after g
     named = matched-same held-named named-held (joined-none (gathered has small (holding-none out clear) j))
 
-    pub sift-done : (n : ℕ) → g ≡ Held n → SiftedOf s count table q given out after (answer.Done n)
+    pub sift-done : (n : ℕ) → g ≡ Held n → SiftedOf k count given out after (answer.Done n)
     sift-done n e = go named
       where
-        go : Matched (Named s table q given) out after g → SiftedOf s count table q given out after (answer.Done n)
-        go (all k f w) = let i : k ≡ n = cc in done n refl (sym z ∙ a .fault) (subst (λ (m : ℕ). Whole (Named s table q given) m out after) i w)
+        go : Matched (Named (k .file) (k .table) (k .query) given) out after g → SiftedOf k count given out after (answer.Done n)
+        go (all j f w) = let i : j ≡ n = cc in done n refl (sym z ∙ a .fault) (subst (λ (m : ℕ). Whole (Named (k .file) (k .table) (k .query) given) m out after) i w)
         go (over f more) = absurd (let y : _≡_ {A = ℕ} 0 1 = cc in omega arith)
 
-    pub sift-short : g ≡ Full → SiftedOf s count table q given out after (answer.Refused LentTooShort)
+    pub sift-short : g ≡ Full → SiftedOf k count given out after (answer.Refused LentTooShort)
     sift-short e = go named
       where
-        go : Matched (Named s table q given) out after g → SiftedOf s count table q given out after (answer.Refused LentTooShort)
+        go : Matched (Named (k .file) (k .table) (k .query) given) out after g → SiftedOf k count given out after (answer.Refused LentTooShort)
         go (all k f w) = absurd (let y : _≡_ {A = ℕ} 0 1 = cc in omega arith)
         go (over f more) = short refl (sym z ∙ a .fault) more

@@ -1,37 +1,28 @@
 // The name filter (`locate_name_indices` of string_locator.rs): of the given string indices those whose text contains the query,
 // ASCII case ignored. The header's own count and table of strings are used. Each string is looked at once: two sets remember which
 // were seen and which of them have the name, with as many bits as the file's count of strings asks for.
-use name_faults::Verdict;
+mod matches_name; // matches_name.rt: one text and a query
+mod refusals; // refusals.rt: what is refused, of a call and of one text
+
 use refusal::Answer;
 use refusal::Refusal;
-use rising::Insertion;
-use string_search::Fault;
-use structs::Read32;
+use refusals::Verdict;
+use word_set::Fault;
+use word_set::Insertion;
 ghost use mathlib.Core.Path.{_≡_};
-ghost use Prim.Native.Nat.{_+_, _≤_, _<_};
-ghost use lib.ListN.{length};
+ghost use Prim.Native.Nat.{_+_};
 ghost use Rattle.dalvik.specs.Numbers.{le32};
-ghost use Rattle.dalvik.specs.Ids.{item as itemAt, string-data-off as dataOff};
-ghost use Rattle.rising.specs.Found.{Found};
-ghost use Rattle.name_faults.specs.Faults.{filterFault};
-ghost use Rattle.name_filter.specs.Names.{Named, Noted, Room, Looking, Looked, Unmarked, AllLooked, Begun, Counted, SiftedOf, Refuses};
-
-fn word(file: &[u8], at: usize) -> u32
-    requires { ⌜ at + 4 ≤ length (now file) ⌝ }
-    ensures { λ r. ⌜ r ≡ le32 (now (file .entry)) at ⌝ }
-{
-    let Read32::Value(value) = structs::read_u32(file, at) else {
-        return 0;
-    };
-    value
-}
+ghost use Rattle.dalvik.specs.Ids.{string-data-off as dataOff};
+ghost use Rattle.word_set.specs.Found.{Found};
+ghost use Rattle.name_filter.specs.Faults.{filterFault};
+ghost use Rattle.name_filter.specs.Names.{Named};
+ghost use Rattle.name_filter.specs.Steps.{names, Noted, Room, Looking, Looked, Unmarked, AllLooked, Begun, Counted, SiftedOf, Refuses};
 
 // The data offset of a string.
 fn data_offset(file: &[u8], table: u32, index: u32) -> usize
-    requires { ⌜ itemAt table 4 (index + 1) ≤ length (now file) ⌝ }
     ensures { λ r. ⌜ r ≡ dataOff (now (file .entry)) table index ⌝ }
 {
-    word(file, (table as usize) + 4 * (index as usize)) as usize
+    structs::u32_at(file, (table as usize) + 4 * (index as usize)) as usize
 }
 
 // A string is seen, and has the name or not.
@@ -54,13 +45,15 @@ fn mark_one(
     seen: &mut [u64],
     has: &mut [u64],
 ) -> Fault
-    requires { ⌜ Looking (now file) table (now query) index (now seen) (now has) ⌝ }
-    ensures { λ r. ⌜ Looked (now (file .entry)) table (now (query .entry)) index (now (seen .entry)) (now (seen .exit)) (now (has .exit)) r ⌝ }
+    requires { ⌜ Looking (names (now file) table (now query)) index (now seen) (now has) ⌝ }
+    ensures { λ r.
+        let of = names (now (file .entry)) table (now (query .entry)) in
+        ⌜ Looked of index (now (seen .entry)) (now (seen .exit)) (now (has .exit)) r ⌝ }
 {
     if index_set::holds(seen, index) {
         return Fault::Nothing;
     }
-    match name_faults::judge(file, data_offset(file, table, index), query) {
+    match refusals::judge(file, data_offset(file, table, index), query) {
         Verdict::Known(named) => {
             note(seen, has, index, named);
             Fault::Nothing
@@ -79,8 +72,10 @@ fn mark(
     seen: &mut [u64],
     has: &mut [u64],
 ) -> Fault
-    requires { ⌜ Unmarked (now file) count table (now seen) (now has) ⌝ }
-    ensures { λ r. ⌜ AllLooked (now (file .entry)) count table (now (query .entry)) (now (given .entry)) (now (seen .exit)) (now (has .exit)) r ⌝ }
+    requires { ⌜ Unmarked count (now seen) (now has) ⌝ }
+    ensures { λ r.
+        let of = names (now (file .entry)) table (now (query .entry)) in
+        ⌜ AllLooked of count (now (given .entry)) (now (seen .exit)) (now (has .exit)) r ⌝ }
 {
     let mut i = 0;
     while i < given.len() {
@@ -108,8 +103,10 @@ fn sift(
     has: &mut [u64],
     out: &mut [u32],
 ) -> Answer
-    requires { ⌜ Begun (now file) count table (now seen) (now has) (now out) ⌝ }
-    ensures { λ r. ⌜ SiftedOf (now (file .entry)) count table (now (query .entry)) (now (given .entry)) (now (out .entry)) (now (out .exit)) r ⌝ }
+    requires { ⌜ Begun count (now seen) (now has) (now out) ⌝ }
+    ensures { λ r.
+        let of = names (now (file .entry)) table (now (query .entry)) in
+        ⌜ SiftedOf of count (now (given .entry)) (now (out .entry)) (now (out .exit)) r ⌝ }
 {
     let fault = mark(file, count, table, query, given, seen, has);
     if let Fault::Refused(why) = fault {
@@ -130,8 +127,10 @@ fn sift_few(
     given: &[u32],
     out: &mut [u32],
 ) -> Answer
-    requires { ⌜ Counted 4096 (now file) count table (now out) ⌝ }
-    ensures { λ r. ⌜ SiftedOf (now (file .entry)) count table (now (query .entry)) (now (given .entry)) (now (out .entry)) (now (out .exit)) r ⌝ }
+    requires { ⌜ Counted 4096 count (now out) ⌝ }
+    ensures { λ r.
+        let of = names (now (file .entry)) table (now (query .entry)) in
+        ⌜ SiftedOf of count (now (given .entry)) (now (out .entry)) (now (out .exit)) r ⌝ }
 {
     let mut seen = [0u64; 64];
     let mut has = [0u64; 64];
@@ -147,8 +146,10 @@ fn sift_some(
     given: &[u32],
     out: &mut [u32],
 ) -> Answer
-    requires { ⌜ Counted 131072 (now file) count table (now out) ⌝ }
-    ensures { λ r. ⌜ SiftedOf (now (file .entry)) count table (now (query .entry)) (now (given .entry)) (now (out .entry)) (now (out .exit)) r ⌝ }
+    requires { ⌜ Counted 131072 count (now out) ⌝ }
+    ensures { λ r.
+        let of = names (now (file .entry)) table (now (query .entry)) in
+        ⌜ SiftedOf of count (now (given .entry)) (now (out .entry)) (now (out .exit)) r ⌝ }
 {
     let mut seen = [0u64; 2048];
     let mut has = [0u64; 2048];
@@ -164,8 +165,10 @@ fn sift_many(
     given: &[u32],
     out: &mut [u32],
 ) -> Answer
-    requires { ⌜ Counted 4194304 (now file) count table (now out) ⌝ }
-    ensures { λ r. ⌜ SiftedOf (now (file .entry)) count table (now (query .entry)) (now (given .entry)) (now (out .entry)) (now (out .exit)) r ⌝ }
+    requires { ⌜ Counted 4194304 count (now out) ⌝ }
+    ensures { λ r.
+        let of = names (now (file .entry)) table (now (query .entry)) in
+        ⌜ SiftedOf of count (now (given .entry)) (now (out .entry)) (now (out .exit)) r ⌝ }
 {
     let mut seen = [0u64; 65536];
     let mut has = [0u64; 65536];
@@ -181,8 +184,10 @@ fn sift_all(
     given: &[u32],
     out: &mut [u32],
 ) -> Answer
-    requires { ⌜ Counted 4194304 (now file) count table (now out) ⌝ }
-    ensures { λ r. ⌜ SiftedOf (now (file .entry)) count table (now (query .entry)) (now (given .entry)) (now (out .entry)) (now (out .exit)) r ⌝ }
+    requires { ⌜ Counted 4194304 count (now out) ⌝ }
+    ensures { λ r.
+        let of = names (now (file .entry)) table (now (query .entry)) in
+        ⌜ SiftedOf of count (now (given .entry)) (now (out .entry)) (now (out .exit)) r ⌝ }
 {
     if count <= 4096 {
         return sift_few(file, count, table, query, given, out);
@@ -203,14 +208,24 @@ fn refuse(lent: &mut [u32], why: Refusal) -> Answer
 
 // The given indices whose string contains the query, rising and without repeats.
 pub fn locate_name_indices(file: &[u8], given: &[u32], query: &[u8], out: &mut [u32]) -> Answer
-    ensures { λ r. ⌜ Found (Named (now (file .entry)) (le32 (now (file .entry)) 0x3c) (now (query .entry)) (now (given .entry))) (filterFault (now (file .entry)) (now (query .entry)) (now (given .entry))) r (now (out .entry)) (now (out .exit)) ⌝ }
+    ensures gives { λ r.
+        let named = Named (now (file .entry)) (le32 (now (file .entry)) 0x3c) (now (query .entry)) (now (given .entry)) in
+        let fault = filterFault (now (file .entry)) (now (query .entry)) (now (given .entry)) in
+        ⌜ Found named fault r (now (out .entry)) (now (out .exit)) ⌝ }
 {
-    let fault = name_faults::head_fault(file, query);
+    let fault = refusals::head_fault(file, query);
     if let Fault::Refused(why) = fault {
         return refuse(out, why);
     }
     words::clear(out);
-    match sift_all(file, word(file, 0x38), word(file, 0x3c), query, given, out) {
+    match sift_all(
+        file,
+        structs::u32_at(file, 0x38),
+        structs::u32_at(file, 0x3c),
+        query,
+        given,
+        out,
+    ) {
         Answer::Done(n) => Answer::Done(n),
         Answer::Refused(why) => refuse(out, why),
     }

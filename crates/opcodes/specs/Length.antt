@@ -1,4 +1,4 @@
--- The length of an instruction, read off its opcode byte by ranges: document 01, under insn_locator.rs. That these are the lengths of
+-- The length of an instruction, read off its opcode byte by ranges: SPEC, Instruction lengths. That these are the lengths of
 -- the published formats is proved in proofs/Published.antt.
 -- Assumes nothing.
 use Prim.Native.Nat.{ℕ}
@@ -59,8 +59,3 @@ asLength n = cond (eqb n 0) Nothing (Units n)
 
 unfoldable pub lengthRead : ℕ → Length
 lengthRead op = asLength (unitsOf op)
-
--- going on after the length: a where there is none, or g of the units
-abbrev pub onLength {ℓ} : {A : Type ℓ} → Length → A → (ℕ → A) → A
-onLength (Units n) a g = g n
-onLength Nothing a g = a

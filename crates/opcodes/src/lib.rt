@@ -1,4 +1,4 @@
-// The length of an instruction by its opcode byte: `opcodes` of the source's models/dvm_opcode, as document 01 gives its meaning.
+// The length of an instruction by its opcode byte: `opcodes` of the source's models/dvm_opcode, as SPEC, Instruction lengths, gives its meaning.
 ghost use mathlib.Core.Path.{_≡_};
 ghost use Rattle.opcodes.specs.Length.{lengthRead};
 

@@ -1,4 +1,4 @@
-// The program `refs`: document 01, "Program". It is the library `refs_program`, run on document 01's whole case.
+// The program `refs`: SPEC, The program refs. It is the library `refs_program`, run on the whole case of that section.
 fn main() {
     refs_program::run();
 }

@@ -1,4 +1,4 @@
-// `refs` on document 01's whole case, asked for 17 indices: refusal 14.
+// `refs` on the whole case (SPEC, The program refs), asked for 17 indices: refusal 14.
 fn main() {
     refs_program::run();
 }

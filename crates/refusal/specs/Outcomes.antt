@@ -1,4 +1,4 @@
--- The outcome of an operation that fills one lent slice of words: document 01's number, 0 for success, and the list.
+-- The outcome of an operation that fills one lent slice of words: the refusal's number, 0 for success, and the list.
 -- Assumes nothing.
 use Prim.Native.Nat.{ℕ}
 use mathlib.Core.Path.{_≡_}
@@ -19,7 +19,7 @@ refused n = record { number = n; list = [] }
 abbrev pub success : List ℕ → Outcome
 success xs = record { number = 0; list = xs }
 
--- an answer and the lent words are the outcome's: the list, and zeros behind it
+-- an answer and the lent words are the outcome's: the list, and zeros after it
 pub record Gives (o : Outcome) (r : Answer) (before after : List ℕ) : Type 0 where
   pub number : answerNumber r ≡ o .number
   pub count : answerCount r ≡ length (o .list)

@@ -1,4 +1,4 @@
--- Document 01, "Faults, operation by operation": the numbers, and the limit of 16,777,216 bytes.
+-- SPEC, Conventions: the numbers of the refusals, and the limit of 16,777,216 bytes.
 -- Assumes nothing.
 use Prim.Native.Nat.{ℕ}
 use mathlib.Core.Bool.{Bool}

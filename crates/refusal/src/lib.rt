@@ -1,8 +1,8 @@
-// Document 01's refusals, the answer that most operations give, and the largest file that is read.
+// The refusals (SPEC, Conventions), the answer that most operations give, and the largest file that is read.
 ghost use mathlib.Core.Path.{_≡_};
 ghost use Rattle.refusal.specs.Refusals.{refusalNumber, tooLarge};
 
-// Why an operation refused. Document 01 numbers them; `number` has the numbers.
+// Why an operation refused. SPEC, Conventions, gives each a number; `number` has them.
 pub enum Refusal {
     // The file has more than 16,777,216 bytes.
     FileTooLarge,
@@ -42,7 +42,7 @@ pub enum Answer {
     Refused(Refusal),
 }
 
-// Document 01's number.
+// The refusal's number.
 pub fn number(r: Refusal) -> u32
     ensures { λ n. ⌜ n ≡ refusalNumber r ⌝ }
 {
@@ -65,7 +65,7 @@ pub fn number(r: Refusal) -> u32
     }
 }
 
-// Whether a file of so many bytes is refused.
+// Whether a file of len bytes is refused.
 pub fn too_large(len: usize) -> bool
     ensures { λ r. ⌜ r ≡ tooLarge len ⌝ }
 {

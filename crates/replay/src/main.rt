@@ -1,11 +1,13 @@
 // Replays a list of calls, `cases`, through the functions that C calls and those that hand back a part of a slice, and writes a line for
-// each: the operation, document 01's number, the numbers handed out, and of each lent output the words up to the last that is not 0.
+// each: the operation, the refusal's number, the numbers handed out, and of each lent output the words up to the last that is not 0.
 // README.md has the form of the list.
-use replay_list::FILE;
-use replay_list::QUERY;
-use replay_list::SECOND;
-use replay_list::Step;
-use replay_list::WORDS;
+mod case_list;
+
+use case_list::FILE;
+use case_list::QUERY;
+use case_list::SECOND;
+use case_list::Step;
+use case_list::WORDS;
 ghost use mathlib.Core.Path.{_≡_};
 ghost use lib.ListN.{length};
 
@@ -15,26 +17,26 @@ const STALE: u32 = 0xa5a5a5a5;
 const STALE_KEY: u64 = 0xa5a5a5a5a5a5a5a5;
 
 fn file(case: &[u8]) -> &[u8] {
-    replay_list::bytes(case, FILE)
+    case_list::bytes(case, FILE)
 }
 
 fn query(case: &[u8]) -> &[u8] {
-    replay_list::bytes(case, QUERY)
+    case_list::bytes(case, QUERY)
 }
 
 fn place(case: &[u8], i: u8) -> usize {
-    replay_list::number(case, i) as usize
+    case_list::number(case, i) as usize
 }
 
-// The operation, document 01's number and the numbers handed out.
+// The operation, the refusal's number and the numbers handed out.
 fn print_count(op: u8, refusal: u32, n: usize) {
-    replay_list::print_head(op, refusal);
-    replay_list::print_number(n as u64);
+    case_list::print_head(op, refusal);
+    case_list::print_number(n as u64);
 }
 
 fn print_counts(op: u8, refusal: u32, a: usize, b: usize) {
     print_count(op, refusal, a);
-    replay_list::print_number(b as u64);
+    case_list::print_number(b as u64);
 }
 
 fn print_code_counts(
@@ -46,9 +48,9 @@ fn print_code_counts(
     shares: usize,
 ) {
     print_counts(10, refusal, region_start, region_end);
-    replay_list::print_number(codes as u64);
-    replay_list::print_number(slots as u64);
-    replay_list::print_number(shares as u64);
+    case_list::print_number(codes as u64);
+    case_list::print_number(slots as u64);
+    case_list::print_number(shares as u64);
 }
 
 // ---- the operations. Those that share how many slices are lent leave the outputs to `answer_one`, `answer_two` and `answer_four`.
@@ -56,10 +58,10 @@ fn print_code_counts(
 fn group(case: &[u8], offsets: &[u32], ids: &[u32]) {
     let mut start = 0;
     let mut count = 0;
-    let key = replay_list::number(case, 13);
+    let key = case_list::number(case, 13);
     let refusal = ringlinden::ringlinden_group(offsets, ids, key, &mut start, &mut count);
     print_counts(3, refusal, start, count);
-    replay_list::end_line();
+    case_list::end_line();
 }
 
 fn string_bytes(case: &[u8]) {
@@ -72,11 +74,11 @@ fn string_bytes(case: &[u8]) {
         &mut count,
     );
     print_counts(5, refusal, start, count);
-    replay_list::end_line();
+    case_list::end_line();
 }
 
 fn string_map(case: &[u8], out: &mut [u64]) {
-    let record = replay_list::header(case);
+    let record = case_list::header(case);
     let mut count = 0;
     let mut start = 0;
     let mut end = 0;
@@ -89,8 +91,8 @@ fn string_map(case: &[u8], out: &mut [u64]) {
         &mut end,
     );
     print_counts(4, refusal, count, start);
-    replay_list::print_number(end as u64);
-    replay_list::print_keys(out);
+    case_list::print_number(end as u64);
+    case_list::print_keys(out);
 }
 
 fn string_search(case: &[u8], keys: &[u64], out: &mut [u32]) {
@@ -121,13 +123,13 @@ fn name_filter(case: &[u8], given: &[u32], out: &mut [u32]) {
 
 fn list_slot(case: &[u8], shares: &[u32], methods: &mut [u32]) {
     let mut count = 0;
-    let slot = replay_list::number(case, 13);
+    let slot = case_list::number(case, 13);
     let refusal = ringlinden::ringlinden_list_slot(shares, slot, methods, &mut count);
     print_count(13, refusal, count);
 }
 
 fn type_groups(case: &[u8], str_offsets: &mut [u32], type_idxs: &mut [u32]) {
-    let record = replay_list::header(case);
+    let record = case_list::header(case);
     let mut count = 0;
     let refusal = ringlinden::ringlinden_type_groups(
         file(case),
@@ -167,9 +169,9 @@ fn scan(case: &[u8], wanted: &[u32], offs: &mut [u32], marks: &mut [u32]) {
     let mut count = 0;
     let refusal = ringlinden::ringlinden_scan(
         file(case),
-        replay_list::number(case, 13),
-        replay_list::number(case, 14),
-        replay_list::number(case, 15),
+        case_list::number(case, 13),
+        case_list::number(case, 14),
+        case_list::number(case, 15),
         wanted,
         offs,
         marks,
@@ -190,7 +192,7 @@ fn locate(
     let mut count = 0;
     let refusal = ringlinden::ringlinden_locate(
         file(case),
-        replay_list::number(case, 13),
+        case_list::number(case, 13),
         slots,
         starts,
         shares,
@@ -211,7 +213,7 @@ fn method_search(
     types: &mut [u32],
     out: &mut [u32],
 ) {
-    let record = replay_list::header(case);
+    let record = case_list::header(case);
     let mut count = 0;
     let refusal = ringlinden::ringlinden_method_search(
         file(case),
@@ -220,7 +222,7 @@ fn method_search(
         place(case, 13),
         place(case, 14),
         query(case),
-        replay_list::bytes(case, SECOND),
+        case_list::bytes(case, SECOND),
         str_offsets,
         type_idxs,
         strings,
@@ -229,7 +231,7 @@ fn method_search(
         &mut count,
     );
     print_count(8, refusal, count);
-    replay_list::print_three(strings, types, out);
+    case_list::print_three(strings, types, out);
 }
 
 fn method_groups(
@@ -239,7 +241,7 @@ fn method_groups(
     name_offsets: &mut [u32],
     name_mids: &mut [u32],
 ) {
-    let record = replay_list::header(case);
+    let record = case_list::header(case);
     let mut clz_count = 0;
     let mut name_count = 0;
     let refusal = ringlinden::ringlinden_method_groups(
@@ -262,7 +264,7 @@ fn code_table(
     slots: &mut [u32],
     shares: &mut [u32],
 ) {
-    let record = replay_list::header(case);
+    let record = case_list::header(case);
     let mut region_start = 0;
     let mut region_end = 0;
     let mut codes = 0;
@@ -296,21 +298,21 @@ fn code_table(
 fn string_data_bytes(case: &[u8]) {
     let text = string_data::string_data_bytes(file(case), place(case, 13));
     print_count(14, 0, text.len());
-    replay_list::print_bytes(text);
+    case_list::print_bytes(text);
 }
 
 fn print_part(op: u8, part: &[u32]) {
     print_count(op, 0, part.len());
-    replay_list::print_one(part);
+    case_list::print_one(part);
 }
 
 fn types_of(case: &[u8], str_offsets: &[u32], type_idxs: &[u32]) {
-    let str_idx = replay_list::number(case, 13);
+    let str_idx = case_list::number(case, 13);
     print_part(15, type_locator::types_of(str_offsets, type_idxs, str_idx));
 }
 
 fn clz_slice(case: &[u8], clz_offsets: &[u32], clz_mids: &[u32]) {
-    let class_idx = replay_list::number(case, 13);
+    let class_idx = case_list::number(case, 13);
     print_part(
         16,
         method_locator::clz_slice(clz_offsets, clz_mids, class_idx),
@@ -318,7 +320,7 @@ fn clz_slice(case: &[u8], clz_offsets: &[u32], clz_mids: &[u32]) {
 }
 
 fn name_slice(case: &[u8], name_offsets: &[u32], name_mids: &[u32]) {
-    let name_idx = replay_list::number(case, 13);
+    let name_idx = case_list::number(case, 13);
     print_part(
         17,
         method_locator::name_slice(name_offsets, name_mids, name_idx),
@@ -329,7 +331,7 @@ fn name_slice(case: &[u8], name_offsets: &[u32], name_mids: &[u32]) {
 
 fn lend_keys(case: &[u8]) {
     let mut o = [STALE_KEY; 1024];
-    let n = replay_list::lent(case, 0);
+    let n = case_list::lent(case, 0);
     string_map(case, &mut o[..n]);
 }
 
@@ -343,12 +345,12 @@ fn call_one(op: u32, case: &[u8], keys: &[u64], w1: &[u32], o1: &mut [u32]) {
 
 fn answer_one(op: u32, case: &[u8], keys: &[u64], w1: &[u32], o1: &mut [u32]) {
     call_one(op, case, keys, w1, o1);
-    replay_list::print_one(o1);
+    case_list::print_one(o1);
 }
 
 fn lend_one(op: u32, case: &[u8], keys: &[u64], w1: &[u32]) {
     let mut o1 = [STALE; 1024];
-    let n1 = replay_list::lent(case, 0);
+    let n1 = case_list::lent(case, 0);
     answer_one(op, case, keys, w1, &mut o1[..n1]);
 }
 
@@ -383,14 +385,14 @@ fn answer_two(
     o2: &mut [u32],
 ) {
     call_two(op, case, keys, w1, w2, w3, w4, o1, o2);
-    replay_list::print_two(o1, o2);
+    case_list::print_two(o1, o2);
 }
 
 fn lend_two(op: u32, case: &[u8], keys: &[u64], w1: &[u32], w2: &[u32], w3: &[u32], w4: &[u32]) {
     let mut o1 = [STALE; 1024];
     let mut o2 = [STALE; 1024];
-    let n1 = replay_list::lent(case, 0);
-    let n2 = replay_list::lent(case, 1);
+    let n1 = case_list::lent(case, 0);
+    let n2 = case_list::lent(case, 1);
     answer_two(op, case, keys, w1, w2, w3, w4, &mut o1[..n1], &mut o2[..n2]);
 }
 
@@ -398,9 +400,9 @@ fn lend_three(case: &[u8], keys: &[u64], w1: &[u32], w2: &[u32]) {
     let mut o1 = [STALE; 1024];
     let mut o2 = [STALE; 1024];
     let mut o3 = [STALE; 1024];
-    let n1 = replay_list::lent(case, 0);
-    let n2 = replay_list::lent(case, 1);
-    let n3 = replay_list::lent(case, 2);
+    let n1 = case_list::lent(case, 0);
+    let n2 = case_list::lent(case, 1);
+    let n3 = case_list::lent(case, 2);
     method_search(
         case,
         keys,
@@ -429,7 +431,7 @@ fn answer_four(
     o4: &mut [u32],
 ) {
     call_four(op, case, o1, o2, o3, o4);
-    replay_list::print_four(o1, o2, o3, o4);
+    case_list::print_four(o1, o2, o3, o4);
 }
 
 fn lend_four(op: u32, case: &[u8]) {
@@ -437,10 +439,10 @@ fn lend_four(op: u32, case: &[u8]) {
     let mut o2 = [STALE; 1024];
     let mut o3 = [STALE; 1024];
     let mut o4 = [STALE; 1024];
-    let n1 = replay_list::lent(case, 0);
-    let n2 = replay_list::lent(case, 1);
-    let n3 = replay_list::lent(case, 2);
-    let n4 = replay_list::lent(case, 3);
+    let n1 = case_list::lent(case, 0);
+    let n2 = case_list::lent(case, 1);
+    let n3 = case_list::lent(case, 2);
+    let n4 = case_list::lent(case, 3);
     answer_four(
         op,
         case,
@@ -452,7 +454,7 @@ fn lend_four(op: u32, case: &[u8]) {
 }
 
 fn call(case: &[u8], keys: &[u64], w1: &[u32], w2: &[u32], w3: &[u32], w4: &[u32]) {
-    let op = replay_list::word(case, 0);
+    let op = case_list::word(case, 0);
     match op {
         3 => group(case, w1, w2),
         5 => string_bytes(case),
@@ -471,44 +473,38 @@ fn call(case: &[u8], keys: &[u64], w1: &[u32], w2: &[u32], w3: &[u32], w4: &[u32
     }
 }
 
-// ---- the lists of a case are loaded one behind another, each in a function of its own
+// ---- the lists of a case are loaded one after another, each in a function of its own
 
 fn with_fourth(case: &[u8], keys: &[u64], w1: &[u32], w2: &[u32], w3: &[u32]) {
-    let room = replay_list::loaded(case, WORDS + 3);
+    let room = case_list::loaded(case, WORDS + 3);
     call(
         case,
         keys,
         w1,
         w2,
         w3,
-        replay_list::given(&room, case, WORDS + 3),
+        case_list::given(&room, case, WORDS + 3),
     );
 }
 
 fn with_third(case: &[u8], keys: &[u64], w1: &[u32], w2: &[u32]) {
-    let room = replay_list::loaded(case, WORDS + 2);
-    with_fourth(
-        case,
-        keys,
-        w1,
-        w2,
-        replay_list::given(&room, case, WORDS + 2),
-    );
+    let room = case_list::loaded(case, WORDS + 2);
+    with_fourth(case, keys, w1, w2, case_list::given(&room, case, WORDS + 2));
 }
 
 fn with_second(case: &[u8], keys: &[u64], w1: &[u32]) {
-    let room = replay_list::loaded(case, WORDS + 1);
-    with_third(case, keys, w1, replay_list::given(&room, case, WORDS + 1));
+    let room = case_list::loaded(case, WORDS + 1);
+    with_third(case, keys, w1, case_list::given(&room, case, WORDS + 1));
 }
 
 fn with_first(case: &[u8], keys: &[u64]) {
-    let room = replay_list::loaded(case, WORDS);
-    with_second(case, keys, replay_list::given(&room, case, WORDS));
+    let room = case_list::loaded(case, WORDS);
+    with_second(case, keys, case_list::given(&room, case, WORDS));
 }
 
 fn run(case: &[u8]) {
-    let room = replay_list::loaded_keys(case);
-    with_first(case, replay_list::given_keys(&room, case));
+    let room = case_list::loaded_keys(case);
+    with_first(case, case_list::given_keys(&room, case));
 }
 
 // ---- the list
@@ -520,8 +516,8 @@ fn known(op: u32) -> bool {
 
 // Whether there is such an operation, and room for its outputs: then it is called.
 fn called(case: &[u8]) -> bool {
-    if known(replay_list::word(case, 0)) {
-        if replay_list::fit(case) {
+    if known(case_list::word(case, 0)) {
+        if case_list::fit(case) {
             run(case);
             return true;
         }
@@ -529,19 +525,19 @@ fn called(case: &[u8]) -> bool {
     false
 }
 
-// The case at a place, and the place behind it.
+// The case at a place, and the place after it.
 fn one(text: &[u8], at: usize) -> Step {
-    let rest = replay_list::from(text, at);
-    let Step::To(n) = replay_list::end(rest) else {
+    let rest = case_list::from(text, at);
+    let Step::To(n) = case_list::end(rest) else {
         return Step::Bad;
     };
-    if called(replay_list::first(rest, n)) {
-        return replay_list::behind(text, at, n);
+    if called(case_list::first(rest, n)) {
+        return case_list::behind(text, at, n);
     }
     Step::Bad
 }
 
-// n cases, one behind another.
+// n cases, one after another.
 fn cases(text: &[u8], n: u32) -> Step {
     let mut at = 4;
     let mut i = 0;
@@ -555,9 +551,9 @@ fn cases(text: &[u8], n: u32) -> Step {
     Step::To(at)
 }
 
-// The whole list: nothing stands behind its last case.
+// The whole list: nothing stands after its last case.
 fn whole(text: &[u8]) -> bool {
-    match cases(text, replay_list::word(text, 0)) {
+    match cases(text, case_list::word(text, 0)) {
         Step::To(end) => end == text.len(),
         Step::Bad => false,
     }
@@ -567,7 +563,7 @@ fn replay(text: &[u8]) {
     if whole(text) {
         return;
     }
-    replay_list::print(b"bad case\n");
+    case_list::print(b"bad case\n");
 }
 
 // Room for the longest list of cases, and a byte more.
@@ -588,7 +584,7 @@ fn main() {
     let n = io::read_full(fd, &mut text);
     libc::close(fd);
     if 1048576 < n {
-        replay_list::print(b"bad case\n");
+        case_list::print(b"bad case\n");
         return;
     }
     replay(&text[..n]);

@@ -9,8 +9,8 @@ use lib.ListN.{length, set}
 use lib.Seq.{sets}
 use Rattle.text_in.specs.Numbers.{numberAt, onNumber}
 use Rattle.text_in.specs.Words.{wordAt, lineEnd, onPlace}
-use Rattle.request_lines.specs.Lines.{comma, pairLine}
-use Rattle.request_lines.specs.declared.Pair.the-variants as q
+use Rattle.request.specs.Lines.{comma, pairLine}
+use Rattle.request.specs.declared.lines.Pair.the-variants as q
 use Rattle.text_in.specs.declared.Number.the-variants as n
 use Rattle.text_in.specs.declared.Place.the-variants as p
 use Rattle.request.specs.Request.{strings=, headerLines, Listed, listed, none, consTo, indicesAt, indexLine, index=, ended}
@@ -43,7 +43,7 @@ module _ (s : List ℕ) (l i : ℕ) where
   unfolding indicesAt
   more-numbers v q j e f = rw (← e, ← f)
 
--- the whole is w; k indices are stored in ws, and at most m are left, of which l stand behind the next
+-- the whole is w; k indices are stored in ws, and at most m are left, of which l stand after the next
 module _ (s : List ℕ) (m l i k : ℕ) (ws : List ℕ) (w : Stored) (next : m ≡ suc l) (whole : stored k ws (indicesAt m s i) ≡ w) where
   here : stored k ws (indicesAt (suc l) s i) ≡ w
   here = rw next at whole

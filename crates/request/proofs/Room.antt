@@ -18,12 +18,12 @@ use Rattle.text_in.specs.declared.Number.{Number}
 use Rattle.text_in.specs.declared.Number.the-variants as n
 use Rattle.text_in.specs.declared.Place.{Place}
 use Rattle.text_in.specs.declared.Place.the-variants as p
-use Rattle.request_lines.specs.Lines.{comma, kindLine}
+use Rattle.request.specs.Lines.{comma, kindLine}
 use Rattle.request.specs.declared.Header.{Header}
 use Rattle.request.specs.declared.Header.the-variants as h
 use Rattle.request.specs.Request.{headerLines, onHeader, Listed, listed, none, consTo, indicesAt, index=, indexLine, ended, Said, said, malformed, toTheEnd, saidBy, fitted, requestOf}
 
--- at most so many
+-- at most that many
 abbrev Few : ℕ → Listed → Type 0
 Few m (listed vs q) = length vs ≤ m
 Few m none = Unit {0}

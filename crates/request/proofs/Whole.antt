@@ -12,7 +12,7 @@ use Rattle.words.proofs.Padded.{padded-none, sets-zeros}
 use Rattle.refusal.specs.declared.Refusal.{Refusal}
 use Rattle.refusal.specs.Refusals.{refusalNumber}
 use Rattle.tinydex.specs.declared.DexHeader.{DexHeader}
-use Rattle.request_lines.specs.Lines.{kindLine}
+use Rattle.request.specs.Lines.{kindLine}
 use Rattle.text_in.specs.declared.Number.the-variants as n
 use Rattle.request.specs.Request.{headerLines, indexLine, listed, Said, said, malformed, toTheEnd, saidBy, fitted, refused, Outcome, requestOf, Says}
 use Rattle.request.specs.Steps.{stored, view, RefusedBy}

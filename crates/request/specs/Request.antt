@@ -1,4 +1,4 @@
--- A request, whole: document 01, "Program". Nothing may stand behind the last line.
+-- A request, whole: SPEC, The program refs. Nothing may stand after the last line.
 -- Assumes nothing.
 use Prim.Native.Nat.{ℕ, zero, suc}
 use mathlib.Core.Path.{_≡_}
@@ -12,7 +12,7 @@ use Rattle.tinydex.specs.declared.DexHeader.{DexHeader}
 use Rattle.tinydex.specs.declared.Table.{Table}
 use Rattle.text_in.specs.Numbers.{numberAt, onNumber}
 use Rattle.text_in.specs.Words.{wordAt, lineEnd, onPlace}
-use Rattle.request_lines.specs.Lines.{pairLine, onPair, numberLine, kindLine, comma}
+use Rattle.request.specs.Lines.{pairLine, onPair, numberLine, kindLine, comma}
 use Rattle.request.specs.declared.Header.{Header}
 use Rattle.request.specs.declared.Header.the-variants as h
 use Rattle.request.specs.declared.Request.{Request}
@@ -43,7 +43,7 @@ mapoff= = 109 ∷ 97 ∷ 112 ∷ 111 ∷ 102 ∷ 102 ∷ 61 ∷ []
 abbrev pub index= : List ℕ
 index= = 105 ∷ 110 ∷ 100 ∷ 101 ∷ 120 ∷ 61 ∷ []
 
--- the record's last four lines, in their order, behind those of the three tables given
+-- the record's last four lines, in their order, after those of the three tables given
 unfoldable pub restLines : Table → Table → Table → List ℕ → ℕ → Header
 restLines strings types prototypes s i =
     onPair (pairLine fields= s i) h.Nothing (λ fields a.
@@ -60,7 +60,7 @@ headerLines s =
     onPair (pairLine prototypes= s b) h.Nothing (λ prototypes c.
     restLines strings types prototypes s c)))
 
--- a list of numbers and the place behind it, or none
+-- a list of numbers and the place after it, or none
 pub data Listed : Type 0 where
   listed : List ℕ → ℕ → Listed
   none : Listed
@@ -106,7 +106,7 @@ saidBy s =
     onNumber (kindLine s a) malformed (λ kind b.
     toTheEnd s d kind (indexLine s b)))
 
--- the outcome: document 01's number, 0 for success, the record, the kind, and the indices, which the lent slice then holds with zeros behind
+-- the outcome: the refusal's number, 0 for success, the record, the kind, and the indices, which the lent slice then holds with zeros after
 pub record Outcome : Type 0 where
   pub number : ℕ
   pub header : DexHeader

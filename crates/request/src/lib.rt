@@ -1,22 +1,24 @@
-// The request of the program `refs`, whole: document 01, "Program". The header record's seven lines, the kind and the wanted indices.
+// The request of the program `refs`, whole: SPEC, The program refs. The header record's seven lines, the kind and the wanted indices.
+mod lines;
+
 ghost use mathlib.Core.Path.{_≡_};
 ghost use Rattle.request.specs.Request.{headerLines, restLines, indicesAt, indexLine, mostIndices, requestOf, Says};
 ghost use Rattle.request.specs.Steps.{stored, view, RefusedBy};
 ghost use lib.ListN.{length};
+use lines::Pair;
 use refusal::Refusal;
-use request_lines::Pair;
 use text_in::Number;
 use text_in::Place;
 use tinydex::DexHeader;
 use tinydex::Table;
 
-// The record, and the place behind its lines.
+// The record, and the place after its lines.
 enum Header {
     At { header: DexHeader, next: usize },
     Nothing,
 }
 
-// How many indices were read, and the place behind them.
+// How many indices were read, and the place after them.
 enum Indices {
     Read { count: usize, next: usize },
     Nothing,
@@ -38,56 +40,56 @@ fn header_lines(text: &[u8]) -> Header
     let Pair::At {
         table: strings,
         next: a,
-    } = request_lines::pair_line(text, 0, b"strings=")
+    } = lines::pair_line(text, 0, b"strings=")
     else {
         return Header::Nothing;
     };
     let Pair::At {
         table: types,
         next: b,
-    } = request_lines::pair_line(text, a, b"types=")
+    } = lines::pair_line(text, a, b"types=")
     else {
         return Header::Nothing;
     };
     let Pair::At {
         table: prototypes,
         next: c,
-    } = request_lines::pair_line(text, b, b"prototypes=")
+    } = lines::pair_line(text, b, b"prototypes=")
     else {
         return Header::Nothing;
     };
     rest_lines(text, c, strings, types, prototypes)
 }
 
-// The record's further lines, behind those of the first three tables.
+// The record's further lines, after those of the first three tables.
 fn rest_lines(text: &[u8], at: usize, strings: Table, types: Table, prototypes: Table) -> Header
     ensures { λ r. ⌜ r ≡ restLines strings types prototypes (now (text .entry)) at ⌝ }
 {
     let Pair::At {
         table: fields,
         next: a,
-    } = request_lines::pair_line(text, at, b"fields=")
+    } = lines::pair_line(text, at, b"fields=")
     else {
         return Header::Nothing;
     };
     let Pair::At {
         table: methods,
         next: b,
-    } = request_lines::pair_line(text, a, b"methods=")
+    } = lines::pair_line(text, a, b"methods=")
     else {
         return Header::Nothing;
     };
     let Pair::At {
         table: classes,
         next: c,
-    } = request_lines::pair_line(text, b, b"classes=")
+    } = lines::pair_line(text, b, b"classes=")
     else {
         return Header::Nothing;
     };
     let Number::Value {
         value: mapoff,
         next: d,
-    } = request_lines::number_line(text, c, b"mapoff=")
+    } = lines::number_line(text, c, b"mapoff=")
     else {
         return Header::Nothing;
     };
@@ -164,7 +166,7 @@ pub fn read_request(text: &[u8], wanted: &mut [u32]) -> Request
     let Number::Value {
         value: kind,
         next: b,
-    } = request_lines::kind_line(text, a)
+    } = lines::kind_line(text, a)
     else {
         return refuse(Refusal::BadRequest, wanted);
     };

@@ -1,39 +1,42 @@
-// The C interface (include/ringlinden.h): each operation under a plain name, over lent slices. A function returns document 01's
+// The C interface (include/ringlinden.h): each operation under a plain name, over lent slices. A function returns the refusal's
 // number, 0 for success; counts and places go through pointers, and are 0 on a refusal.
+mod c_answers;
+
 ghost use mathlib.Core.Path.{_≡_};
-ghost use mathlib.Core.List.{[], _∷_};
+ghost use mathlib.Core.List.{[], _∷_, _++_};
 ghost use lib.ListN.{length};
-ghost use Rattle.dalvik.specs.Ids.{typeIdSize, type-descriptor-idx as descriptorIdx};
 ghost use Rattle.dalvik.specs.Numbers.{le32};
 ghost use Rattle.refusal.specs.Outcomes.{Gives as GivesWords};
 ghost use Rattle.refusal.specs.declared.Answer.{Answer as AnAnswer};
-ghost use Rattle.groups.specs.Built.{outcome as groupsOutcome, Gives as GivesGroups};
-ghost use Rattle.method_locator.specs.Built.{outcome as methodsOutcome, Gives as GivesMethods};
+ghost use Rattle.groups.specs.Built.{groupWords, Gives as GivesGroups};
+ghost use Rattle.type_locator.specs.Built.{outcome as typesOutcome};
+ghost use Rattle.method_locator.specs.Built.{methodWords, outcome as methodsOutcome, Gives as GivesMethods};
 ghost use Rattle.method_locator.specs.declared.Built.{Built as MethodGroups};
 ghost use Rattle.string_locator.specs.Map.{Built as BuiltMap};
 ghost use Rattle.string_locator.specs.declared.StringMap.{StringMap as AMap};
 ghost use Rattle.string_data.specs.Text.{stringText, says as textSays};
 ghost use Rattle.string_data.specs.declared.StringText.{StringText as AText};
-ghost use Rattle.rising.specs.Found.{Found as FoundWords};
-ghost use Rattle.string_search.specs.Search.{Owns, searchFault};
-ghost use Rattle.type_search.specs.Types.{Searched as TypesSearched};
-ghost use Rattle.method_search.specs.Methods.{Searched as MethodsSearched};
-ghost use Rattle.name_faults.specs.Faults.{filterFault};
+ghost use Rattle.word_set.specs.Found.{Found as FoundWords};
+ghost use Rattle.string_search.specs.Search.{area, Owns, searchFault};
+ghost use Rattle.type_search.specs.Types.{typeWords, Searched as TypesSearched};
+ghost use Rattle.method_search.specs.Methods.{query as classAndName, searchFor, searchWords, Searched as MethodsSearched};
+ghost use Rattle.name_filter.specs.Faults.{filterFault};
 ghost use Rattle.name_filter.specs.Names.{Named};
-ghost use Rattle.code_table.specs.Answer.{Parsed};
+ghost use Rattle.code_table.specs.Build.{buildOut};
+ghost use Rattle.code_table.specs.Answer.{tableWords, roomOf, GivesBuild};
 ghost use Rattle.code_table.specs.declared.Built.{Built as CodeTable};
-ghost use Rattle.code_item_scan.specs.Scan.{scanOut};
-ghost use Rattle.code_item_scan.specs.Answers.{Gives as GivesScan};
+ghost use Rattle.code_item_scan.specs.Scan.{asked, scanOut};
+ghost use Rattle.code_item_scan.specs.Answers.{hitWords, hitRoomOf, Gives as GivesScan};
 ghost use Rattle.insn_locator.specs.Locate.{locateOut};
-ghost use Rattle.insn_locator.specs.Answers.{tables, Located};
-ghost use Rattle.insn_locator.specs.Listing.{listOut};
-ghost use Rattle.findrefs.specs.Find.{findOut};
-ghost use Rattle.findrefs.specs.Gives.{lengths, GivesFind};
-ghost use Rattle.findrefs.specs.Promise.{Promise};
+ghost use Rattle.insn_locator.specs.Answers.{tables, locateWords, Located};
+ghost use Rattle.slot_listing.specs.Listing.{listOut};
+ghost use Rattle.completeness.specs.Completeness.{findWords, callOf, Demand3};
+ghost use Rattle.findrefs.specs.Find.{lengthsOf, findOut};
+ghost use Rattle.findrefs.specs.Gives.{replyOf, GivesFind};
 ghost use Rattle.findrefs.specs.declared.Found.{Found as AFound};
-ghost use Rattle.handover.specs.Header.{headerOf};
-ghost use Rattle.handover.specs.Told.{Told, ofAnswer, ofMethodGroups, ofStringMap, ofStringText, ofCodeTable, ofFound};
-ghost use Rattle.handover.specs.Group.{GroupAt};
+ghost use Rattle.ringlinden.specs.Header.{headerOf};
+ghost use Rattle.ringlinden.specs.Told.{Told, ofAnswer, ofMethodGroups, ofStringMap, ofStringText, ofCodeTable, ofFound};
+ghost use Rattle.ringlinden.specs.Group.{GroupAt};
 
 // ---- groups
 
@@ -46,10 +49,19 @@ pub extern "C" fn ringlinden_type_groups(
     type_idxs: &mut [u32],
     count: &mut usize,
 ) -> u32
-    ensures { λ r. ⌜ Told ofAnswer (λ (a : AnAnswer). GivesGroups (groupsOutcome (length (now (file .entry))) (descriptorIdx (now (file .entry)) ((headerOf (now (header .entry))) .types .off)) ((headerOf (now (header .entry))) .types) typeIdSize ((headerOf (now (header .entry))) .strings .size) (length (now («str_offsets» .entry))) (length (now («type_idxs» .entry)))) a (now («str_offsets» .entry)) (now («str_offsets» .exit)) (now («type_idxs» .entry)) (now («type_idxs» .exit))) (r ∷ now (count .exit) ∷ []) ⌝ }
+    ensures gives { λ r.
+        let before = groupWords (now («str_offsets» .entry)) (now («type_idxs» .entry)) in
+        let after = groupWords (now («str_offsets» .exit)) (now («type_idxs» .exit)) in
+        let outcome = typesOutcome (now (file .entry)) (headerOf (now (header .entry))) before in
+        ⌜ Told ofAnswer (λ (a : AnAnswer). GivesGroups outcome a before after) (r ∷ now (count .exit) ∷ []) ⌝ }
 {
-    let answer = type_locator::build_map(file, handover::header_of(header), str_offsets, type_idxs);
-    handover::tell(answer, count)
+    let answer = type_locator::build_map(
+        file,
+        c_answers::header_of(header),
+        str_offsets,
+        type_idxs,
+    );
+    c_answers::tell(answer, count)
 }
 
 // The method ids grouped by class and by name.
@@ -64,17 +76,23 @@ pub extern "C" fn ringlinden_method_groups(
     clz_count: &mut usize,
     name_count: &mut usize,
 ) -> u32
-    ensures { λ r. ⌜ Told ofMethodGroups (λ (a : MethodGroups). GivesMethods (methodsOutcome (now (file .entry)) (headerOf (now (header .entry))) (length (now («clz_offsets» .entry))) (length (now («clz_mids» .entry))) (length (now («name_offsets» .entry))) (length (now («name_mids» .entry)))) a (now («clz_offsets» .entry)) (now («clz_offsets» .exit)) (now («clz_mids» .entry)) (now («clz_mids» .exit)) (now («name_offsets» .entry)) (now («name_offsets» .exit)) (now («name_mids» .entry)) (now («name_mids» .exit))) (r ∷ now («clz_count» .exit) ∷ now («name_count» .exit) ∷ []) ⌝ }
+    ensures gives { λ r.
+        let before = methodWords (groupWords (now («clz_offsets» .entry)) (now («clz_mids» .entry)))
+        (groupWords (now («name_offsets» .entry)) (now («name_mids» .entry))) in
+        let after = methodWords (groupWords (now («clz_offsets» .exit)) (now («clz_mids» .exit)))
+        (groupWords (now («name_offsets» .exit)) (now («name_mids» .exit))) in
+        let outcome = methodsOutcome (now (file .entry)) (headerOf (now (header .entry))) before in
+        ⌜ Told ofMethodGroups (λ (a : MethodGroups). GivesMethods outcome a before after) (r ∷ now («clz_count» .exit) ∷ now («name_count» .exit) ∷ []) ⌝ }
 {
     let answer = method_locator::build_map(
         file,
-        handover::header_of(header),
+        c_answers::header_of(header),
         clz_offsets,
         clz_mids,
         name_offsets,
         name_mids,
     );
-    handover::tell_method_groups(answer, clz_count, name_count)
+    c_answers::tell_method_groups(answer, clz_count, name_count)
 }
 
 // The group of a key: `count` ids from `start` on, none where the key or its offsets don't fit. No call is refused.
@@ -89,7 +107,7 @@ pub extern "C" fn ringlinden_group(
     ensures { λ r. ⌜ r ≡ 0 ⌝ }
     ensures { λ _. ⌜ GroupAt (now (offsets .entry)) (now (ids .entry)) key (now (start .exit)) (now (count .exit)) ⌝ }
 {
-    let span = handover::group_span(offsets, ids, key);
+    let span = c_answers::group_span(offsets, ids, key);
     *start = span.start;
     *count = span.count;
     0
@@ -107,10 +125,13 @@ pub extern "C" fn ringlinden_string_map(
     start: &mut usize,
     end: &mut usize,
 ) -> u32
-    ensures { λ r. ⌜ Told ofStringMap (λ (a : AMap). BuiltMap (now (file .entry)) ((headerOf (now (header .entry))) .strings .off) ((headerOf (now (header .entry))) .strings .size) a (now (keys .entry)) (now (keys .exit))) (r ∷ now (count .exit) ∷ now (start .exit) ∷ now (end .exit) ∷ []) ⌝ }
+    ensures gives { λ r.
+        let strings = headerOf (now (header .entry)) .strings in
+        let Right : AMap → Type 0 = λ a. BuiltMap (now (file .entry)) (strings .off) (strings .size) a (now (keys .entry)) (now (keys .exit)) in
+        ⌜ Told ofStringMap Right (r ∷ now (count .exit) ∷ now (start .exit) ∷ now (end .exit) ∷ []) ⌝ }
 {
-    let answer = string_locator::build_map(file, handover::header_of(header), keys);
-    handover::tell_string_map(answer, count, start, end)
+    let answer = string_locator::build_map(file, c_answers::header_of(header), keys);
+    c_answers::tell_string_map(answer, count, start, end)
 }
 
 // The bytes of the string whose data stand at an offset: `count` bytes of the file from `start` on.
@@ -121,10 +142,12 @@ pub extern "C" fn ringlinden_string_bytes(
     start: &mut usize,
     count: &mut usize,
 ) -> u32
-    ensures { λ r. ⌜ Told ofStringText (λ (a : AText). textSays a ≡ stringText (now (file .entry)) offset) (r ∷ now (start .exit) ∷ now (count .exit) ∷ []) ⌝ }
+    ensures gives { λ r.
+        let Right : AText → Type 0 = λ a. textSays a ≡ stringText (now (file .entry)) offset in
+        ⌜ Told ofStringText Right (r ∷ now (start .exit) ∷ now (count .exit) ∷ []) ⌝ }
 {
     let answer = string_data::string_data(file, offset);
-    handover::tell_string_text(answer, start, count)
+    c_answers::tell_string_text(answer, start, count)
 }
 
 // The strings that own a find of the query.
@@ -138,10 +161,14 @@ pub extern "C" fn ringlinden_string_search(
     out: &mut [u32],
     count: &mut usize,
 ) -> u32
-    ensures { λ r. ⌜ Told ofAnswer (λ (a : AnAnswer). FoundWords (Owns (now (file .entry)) (now (keys .entry)) start end (now (query .entry))) (searchFault (length (now (file .entry))) 1 (length (now (query .entry))) (now (keys .entry))) a (now (out .entry)) (now (out .exit))) (r ∷ now (count .exit) ∷ []) ⌝ }
+    ensures gives { λ r.
+        let searched = area (now (file .entry)) (now (keys .entry)) start end in
+        let fault = searchFault (length (now (file .entry))) 1 (length (now (query .entry))) (now (keys .entry)) in
+        ⌜ Told ofAnswer (λ (a : AnAnswer). FoundWords (Owns searched (now (query .entry))) fault a (now (out .entry)) (now (out .exit)))
+        (r ∷ now (count .exit) ∷ []) ⌝ }
 {
     let answer = string_search::locate(file, keys, start, end, query, out);
-    handover::tell(answer, count)
+    c_answers::tell(answer, count)
 }
 
 // The types whose string owns a find of the query.
@@ -158,7 +185,12 @@ pub extern "C" fn ringlinden_type_search(
     out: &mut [u32],
     count: &mut usize,
 ) -> u32
-    ensures { λ r. ⌜ Told ofAnswer (λ (a : AnAnswer). TypesSearched (now (file .entry)) (now (keys .entry)) start end (now (query .entry)) (now («str_offsets» .entry)) (now («type_idxs» .entry)) a (now (strings .entry)) (now (strings .exit)) (now (out .entry)) (now (out .exit))) (r ∷ now (count .exit) ∷ []) ⌝ }
+    ensures gives { λ r.
+        let searched = area (now (file .entry)) (now (keys .entry)) start end in
+        let table = groupWords (now («str_offsets» .entry)) (now («type_idxs» .entry)) in
+        let before = typeWords (now (strings .entry)) (now (out .entry)) in
+        let after = typeWords (now (strings .exit)) (now (out .exit)) in
+        ⌜ Told ofAnswer (λ (a : AnAnswer). TypesSearched searched (now (query .entry)) table a before after) (r ∷ now (count .exit) ∷ []) ⌝ }
 {
     let answer = type_search::locate(
         file,
@@ -171,7 +203,7 @@ pub extern "C" fn ringlinden_type_search(
         strings,
         out,
     );
-    handover::tell(answer, count)
+    c_answers::tell(answer, count)
 }
 
 // The methods whose class and name fit the queries.
@@ -191,11 +223,17 @@ pub extern "C" fn ringlinden_method_search(
     out: &mut [u32],
     count: &mut usize,
 ) -> u32
-    ensures { λ r. ⌜ Told ofAnswer (λ (a : AnAnswer). MethodsSearched (now (file .entry)) ((headerOf (now (header .entry))) .methods) (now (keys .entry)) start end (now (class .entry)) (now (name .entry)) (now («str_offsets» .entry)) (now («type_idxs» .entry)) a (now (strings .entry)) (now (strings .exit)) (now (types .entry)) (now (types .exit)) (now (out .entry)) (now (out .exit))) (r ∷ now (count .exit) ∷ []) ⌝ }
+    ensures gives { λ r.
+        let searched = area (now (file .entry)) (now (keys .entry)) start end in
+        let table = groupWords (now («str_offsets» .entry)) (now («type_idxs» .entry)) in
+        let asked = searchFor searched (classAndName (now (class .entry)) (now (name .entry))) table (headerOf (now (header .entry)) .methods) in
+        let before = searchWords (now (strings .entry)) (now (types .entry)) (now (out .entry)) in
+        let after = searchWords (now (strings .exit)) (now (types .exit)) (now (out .exit)) in
+        ⌜ Told ofAnswer (λ (a : AnAnswer). MethodsSearched asked a before after) (r ∷ now (count .exit) ∷ []) ⌝ }
 {
     let answer = method_search::locate(
         file,
-        handover::header_of(header),
+        c_answers::header_of(header),
         keys,
         start,
         end,
@@ -207,7 +245,7 @@ pub extern "C" fn ringlinden_method_search(
         types,
         out,
     );
-    handover::tell(answer, count)
+    c_answers::tell(answer, count)
 }
 
 // The given string indices whose string contains the query.
@@ -219,10 +257,14 @@ pub extern "C" fn ringlinden_name_filter(
     out: &mut [u32],
     count: &mut usize,
 ) -> u32
-    ensures { λ r. ⌜ Told ofAnswer (λ (a : AnAnswer). FoundWords (Named (now (file .entry)) (le32 (now (file .entry)) 0x3c) (now (query .entry)) (now (given .entry))) (filterFault (now (file .entry)) (now (query .entry)) (now (given .entry))) a (now (out .entry)) (now (out .exit))) (r ∷ now (count .exit) ∷ []) ⌝ }
+    ensures gives { λ r.
+        let s = now (file .entry) in
+        let Kept = Named s (le32 s 0x3c) (now (query .entry)) (now (given .entry)) in
+        let fault = filterFault s (now (query .entry)) (now (given .entry)) in
+        ⌜ Told ofAnswer (λ (a : AnAnswer). FoundWords Kept fault a (now (out .entry)) (now (out .exit))) (r ∷ now (count .exit) ∷ []) ⌝ }
 {
     let answer = name_filter::locate_name_indices(file, given, query, out);
-    handover::tell(answer, count)
+    c_answers::tell(answer, count)
 }
 
 // ---- code
@@ -242,17 +284,23 @@ pub extern "C" fn ringlinden_code_table(
     slot_count: &mut usize,
     share_count: &mut usize,
 ) -> u32
-    ensures { λ r. ⌜ Told ofCodeTable (λ (a : CodeTable). Parsed (now (file .entry)) (headerOf (now (header .entry))) (now (starts .entry)) (now (triples .entry)) (now (slots .entry)) (now (shares .entry)) a (now (starts .exit)) (now (triples .exit)) (now (slots .exit)) (now (shares .exit))) (r ∷ now («region_start» .exit) ∷ now («region_end» .exit) ∷ now (codes .exit) ∷ now («slot_count» .exit) ∷ now («share_count» .exit) ∷ []) ⌝ }
+    ensures gives { λ r.
+        let before = tableWords (now (starts .entry)) (now (triples .entry)) (now (slots .entry)) (now (shares .entry)) in
+        let after = tableWords (now (starts .exit)) (now (triples .exit)) (now (slots .exit)) (now (shares .exit)) in
+        let outcome = buildOut (now (file .entry)) (headerOf (now (header .entry))) (roomOf before) in
+        let region = now («region_start» .exit) ∷ now («region_end» .exit) ∷ [] in
+        let counts = now (codes .exit) ∷ now («slot_count» .exit) ∷ now («share_count» .exit) ∷ [] in
+        ⌜ Told ofCodeTable (λ (a : CodeTable). GivesBuild outcome a before after) (r ∷ region ++ counts) ⌝ }
 {
     let answer = code_table::parse(
         file,
-        handover::header_of(header),
+        c_answers::header_of(header),
         starts,
         triples,
         slots,
         shares,
     );
-    handover::tell_code_table(
+    c_answers::tell_code_table(
         answer,
         region_start,
         region_end,
@@ -274,10 +322,14 @@ pub extern "C" fn ringlinden_scan(
     marks: &mut [u32],
     count: &mut usize,
 ) -> u32
-    ensures { λ r. ⌜ Told ofAnswer (λ (a : AnAnswer). GivesScan (scanOut (now (file .entry)) kind (now (wanted .entry)) start end (length (now (offs .entry))) (length (now (marks .entry)))) a (now (offs .entry)) (now (marks .entry)) (now (offs .exit)) (now (marks .exit))) (r ∷ now (count .exit) ∷ []) ⌝ }
+    ensures gives { λ r.
+        let before = hitWords (now (offs .entry)) (now (marks .entry)) in
+        let after = hitWords (now (offs .exit)) (now (marks .exit)) in
+        let outcome = scanOut (now (file .entry)) (asked kind (now (wanted .entry)) start end) (hitRoomOf before) in
+        ⌜ Told ofAnswer (λ (a : AnAnswer). GivesScan outcome a before after) (r ∷ now (count .exit) ∷ []) ⌝ }
 {
     let answer = code_item_scan::scan(file, start, end, kind, wanted, offs, marks);
-    handover::tell(answer, count)
+    c_answers::tell(answer, count)
 }
 
 // The slot word of each entry that a walk of the code confirms, else 0.
@@ -293,10 +345,15 @@ pub extern "C" fn ringlinden_locate(
     answers: &mut [u32],
     count: &mut usize,
 ) -> u32
-    ensures { λ r. ⌜ Told ofAnswer (λ (a : AnAnswer). Located (locateOut (now (file .entry)) (tables base (now (slots .entry)) (now (starts .entry)) (now (shares .entry))) (now (entries .entry)) (length (now (answers .entry))) (length (now (further .entry)))) a (now (further .entry)) (now (further .exit)) (now (answers .entry)) (now (answers .exit))) (r ∷ now (count .exit) ∷ []) ⌝ }
+    ensures gives { λ r.
+        let T = tables base (now (slots .entry)) (now (starts .entry)) (now (shares .entry)) in
+        let before = locateWords (now (further .entry)) (now (answers .entry)) in
+        let after = locateWords (now (further .exit)) (now (answers .exit)) in
+        let outcome = locateOut (now (file .entry)) T (now (entries .entry)) (length (before .answers)) (length (before .further)) in
+        ⌜ Told ofAnswer (λ (a : AnAnswer). Located outcome a before after) (r ∷ now (count .exit) ∷ []) ⌝ }
 {
     let answer = insn_locator::locate(file, base, slots, starts, shares, entries, further, answers);
-    handover::tell(answer, count)
+    c_answers::tell(answer, count)
 }
 
 // The methods of a slot word.
@@ -307,10 +364,12 @@ pub extern "C" fn ringlinden_list_slot(
     methods: &mut [u32],
     count: &mut usize,
 ) -> u32
-    ensures { λ r. ⌜ Told ofAnswer (λ (a : AnAnswer). GivesWords (listOut (now (shares .entry)) slot (length (now (methods .entry)))) a (now (methods .entry)) (now (methods .exit))) (r ∷ now (count .exit) ∷ []) ⌝ }
+    ensures gives { λ r.
+        let outcome = listOut (now (shares .entry)) slot (length (now (methods .entry))) in
+        ⌜ Told ofAnswer (λ (a : AnAnswer). GivesWords outcome a (now (methods .entry)) (now (methods .exit))) (r ∷ now (count .exit) ∷ []) ⌝ }
 {
     let listed = slot_listing::list_slot(shares, slot, methods);
-    handover::tell(listed, count)
+    c_answers::tell(listed, count)
 }
 
 // Build, scan and locate in one, with demand 3 as `findrefs::find` has it.
@@ -332,12 +391,24 @@ pub extern "C" fn ringlinden_find(
     region_end: &mut usize,
     hits: &mut usize,
 ) -> u32
-    ensures gives { λ r. ⌜ Told ofFound (λ (a : AFound). GivesFind (findOut (now (file .entry)) (headerOf (now (header .entry))) kind (now (wanted .entry)) (lengths (now (starts .entry)) (now (triples .entry)) (now (slots .entry)) (now (shares .entry)) (now (offs .entry)) (now (marks .entry)) (now (further .entry)) (now (answers .entry)))) (lengths (now (starts .entry)) (now (triples .entry)) (now (slots .entry)) (now (shares .entry)) (now (offs .entry)) (now (marks .entry)) (now (further .entry)) (now (answers .entry))) a (now (starts .exit)) (now (triples .exit)) (now (slots .exit)) (now (shares .exit)) (now (offs .exit)) (now (marks .exit)) (now (further .exit)) (now (answers .exit))) (r ∷ now («region_start» .exit) ∷ now («region_end» .exit) ∷ now (hits .exit) ∷ []) ⌝ }
-    ensures demand_3 { λ r. ⌜ Told ofFound (λ (a : AFound). Promise (now (file .entry)) (headerOf (now (header .entry))) kind (now (wanted .entry)) (lengths (now (starts .entry)) (now (triples .entry)) (now (slots .entry)) (now (shares .entry)) (now (offs .entry)) (now (marks .entry)) (now (further .entry)) (now (answers .entry))) a (now (shares .exit)) (now (offs .exit)) (now (marks .exit)) (now (answers .exit))) (r ∷ now («region_start» .exit) ∷ now («region_end» .exit) ∷ now (hits .exit) ∷ []) ⌝ }
+    ensures gives { λ r.
+        let table = tableWords (now (starts .entry)) (now (triples .entry)) (now (slots .entry)) (now (shares .entry)) in
+        let left = tableWords (now (starts .exit)) (now (triples .exit)) (now (slots .exit)) (now (shares .exit)) in
+        let before = findWords table (hitWords (now (offs .entry)) (now (marks .entry))) (locateWords (now (further .entry)) (now (answers .entry))) in
+        let after = findWords left (hitWords (now (offs .exit)) (now (marks .exit))) (locateWords (now (further .exit)) (now (answers .exit))) in
+        let outcome = findOut (now (file .entry)) (headerOf (now (header .entry))) kind (now (wanted .entry)) (lengthsOf before) in
+        ⌜ Told ofFound (λ (a : AFound). GivesFind outcome a before after) (r ∷ now («region_start» .exit) ∷ now («region_end» .exit) ∷ now (hits .exit) ∷ []) ⌝ }
+    ensures demand_3 { λ r.
+        let table = tableWords (now (starts .entry)) (now (triples .entry)) (now (slots .entry)) (now (shares .entry)) in
+        let left = tableWords (now (starts .exit)) (now (triples .exit)) (now (slots .exit)) (now (shares .exit)) in
+        let before = findWords table (hitWords (now (offs .entry)) (now (marks .entry))) (locateWords (now (further .entry)) (now (answers .entry))) in
+        let after = findWords left (hitWords (now (offs .exit)) (now (marks .exit))) (locateWords (now (further .exit)) (now (answers .exit))) in
+        let call = callOf (now (file .entry)) (headerOf (now (header .entry))) kind (now (wanted .entry)) in
+        ⌜ Told ofFound (λ (a : AFound). Demand3 call before (replyOf a) after) (r ∷ now («region_start» .exit) ∷ now («region_end» .exit) ∷ now (hits .exit) ∷ []) ⌝ }
 {
     let answer = findrefs::find(
         file,
-        handover::header_of(header),
+        c_answers::header_of(header),
         kind,
         wanted,
         starts,
@@ -349,5 +420,5 @@ pub extern "C" fn ringlinden_find(
         further,
         answers,
     );
-    handover::tell_found(answer, region_start, region_end, hits)
+    c_answers::tell_found(answer, region_start, region_end, hits)
 }

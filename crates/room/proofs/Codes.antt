@@ -1,4 +1,4 @@
--- Room for the code table of any file. A code found lies inside the file and behind 16 header bytes, so its blocks are among those from 1 up
+-- Room for the code table of any file. A code found lies inside the file and after 16 header bytes, so its blocks are among those from 1 up
 -- to the file's last; a code adds one share at most; and the walk over class data has no refusal of its own for room.
 -- Assumes nothing.
 use Prim.Native.Nat.{ℕ, zero, suc, _+_, _-_, _*_, _/_, _%_, _^_, _≤_, min}
@@ -13,7 +13,8 @@ use lib.Dec.{ltb, leb, eqb}
 use borrow.Author.Tests.{le-leb}
 use Rattle.words.proofs.Shared.{cond-elim}
 use Rattle.refusal.specs.Refusals.{refusalNumber, tooLarge}
-use Rattle.refusal.specs.declared.Refusal.the-variants.{TableOutside, NumberOutside, MethodIndex, CodeOutside}
+use Rattle.refusal.specs.declared.Refusal.{Refusal}
+use Rattle.refusal.specs.declared.Refusal.the-variants.{TableOutside, MethodIndex, CodeOutside}
 use Rattle.tinydex.specs.declared.DexHeader.{DexHeader}
 use Rattle.dalvik.specs.CodeItem.{Code}
 use Rattle.dalvik.specs.MapList.{map-size, map-offset}
@@ -21,21 +22,22 @@ use Rattle.dalvik.specs.ClassData.{classDefSize, class-data-off}
 use Rattle.leb128.specs.Leb.{ulebFast, onUleb}
 use Rattle.leb128.specs.declared.Uleb.{Uleb}
 use Rattle.leb128.specs.declared.Uleb.the-variants as u
+use Rattle.leb128.proofs.Laws.{reason-number, fast-reason}
 use Rattle.class_data.specs.Walk.{Walk, behind, andOn, word, mostMethods, codeAt, codeInside, withMethod, methodsFrom, classDataAt}
 use Rattle.class_data.specs.Walk.Walk.{refused, found}
 use Rattle.class_data.specs.Stored.{firstBucket}
 use Rattle.class_data.specs.Codes.{successive, defined, mapEntry, byEntry, codesOf}
-use Rattle.class_data.proofs.Parts.{class-any}
+use Rattle.class_data.proofs.Within.{class-any}
 use Rattle.class_data.proofs.Found.{CodeIn, Each, codes-sound}
 use Rattle.code_table.specs.Slots.{lowest, baseOf, topOf, tableOf}
 use Rattle.code_table.specs.Build.{Room, Build, noBuild, wholeBuild, mostShares, builtFrom, buildOut}
-use Rattle.demand.proofs.Few.{shares-few}
+use Rattle.completeness.proofs.Few.{shares-few}
 use Rattle.room.specs.Laws.{Longer, codesFound}
 use Rattle.room.proofs.Branches.{same-else, room-then, more-leb, more-both, neither}
 
 -- ---- more room
-module _ (count : ℕ) (room room′ : Room) (L : Longer room room′) where
-  from-more : (w : Walk) → builtFrom count room w .number ≡ 0 → builtFrom count room′ w ≡ builtFrom count room w
+module _ (len count : ℕ) (room room′ : Room) (L : Longer room room′) where
+  from-more : (w : Walk) → builtFrom len count room w .number ≡ 0 → builtFrom len count room′ w ≡ builtFrom len count room w
   from-more (refused r) = λ e. refl
   from-more (found cs e) =
       let k : ℕ = length (tableOf cs .shares) in
@@ -44,7 +46,7 @@ module _ (count : ℕ) (room room′ : Room) (L : Longer room room′) where
       let q : Room → Bool = λ r. leb n (r .slots) in
       let v : Room → Bool = λ r. leb k (r .shares) in
       room-then (λ (B : Build). B .number) (p room && q room && v room && leb k mostShares) (p room′ && q room′ && v room′ && leb k mostShares)
-      (wholeBuild count cs) (wholeBuild count cs) (noBuild 4) (λ z. omega arith)
+      (wholeBuild len count cs) (wholeBuild len count cs) (noBuild 4) (λ z. omega arith)
       (more-both (p room && q room && v room) (leb k mostShares) (p room′ && q room′ && v room′) (leb k mostShares)
       (more-both (p room && q room) (v room) (p room′ && q room′) (v room′)
       (more-both (p room) (q room) (p room′) (q room′) (more-leb (3 * length cs) (room .triples) (room′ .triples) (L .triples))
@@ -59,16 +61,20 @@ build-more s h room room′ L =
     let n : Build → ℕ = λ B. B .number in
     same-else n (tooLarge (length s)) (noBuild 1) _ _
     (room-then n (leb (h .methods .size) (room .starts)) (leb (h .methods .size) (room′ .starts)) _ _ (noBuild 4) (λ z. omega arith)
-    (more-leb (h .methods .size) (room .starts) (room′ .starts) (L .starts)) (from-more (h .methods .size) room room′ L (codesOf s h)))
+    (more-leb (h .methods .size) (room .starts) (room′ .starts) (L .starts)) (from-more (length s) (h .methods .size) room room′ L (codesOf s h)))
 
 -- ---- the walk has no 4
 abbrev Not : Walk → Type 0
 Not (refused r) = refusalNumber r ≢ 4
 Not (found cs e) = Unit {0}
 
-by-number : (r : Uleb) (f : ℕ → ℕ → Walk) → ((v n : ℕ) → Not (f v n)) → Not (onUleb r (refused NumberOutside) f)
-by-number (u.Number v n) f g = g v n
-by-number u.RunsOff f g = λ e. omega arith
+by-number : (r : Uleb) (f : ℕ → ℕ → Walk) → ((y : Refusal) → u.Refused y ≡ r → refusalNumber y ≢ 4) → ((v n : ℕ) → Not (f v n)) → Not (onUleb r (λ y. refused y) f)
+by-number (u.Number v n) f a g = g v n
+by-number (u.Refused y) f a g = a y refl
+
+-- a reader has its own reasons
+reads : (s : List ℕ) (i : ℕ) (f : ℕ → ℕ → Walk) → ((v n : ℕ) → Not (f v n)) → Not (onUleb (ulebFast s i) (λ y. refused y) f)
+reads s i f g = by-number (ulebFast s i) f (λ y e. reason-number y (fast-reason s i y e)) g
 
 behind-not : (cs : List Code) (w : Walk) → Not w → Not (behind cs w)
 behind-not cs (refused r) n = n
@@ -90,15 +96,15 @@ module _ (s : List ℕ) (m : ℕ) where
   unfolding methodsFrom
   methods-not zero i j = tt
   methods-not (suc n) i j =
-      by-number (ulebFast s i) _ (λ d x.
+      reads s i _ (λ d x.
       cond-elim Not (ltb (j + d % word) word) _ (refused MethodIndex)
-      (λ _. by-number (ulebFast s (i + x)) _ (λ _ y. by-number (ulebFast s (i + x + y)) _ (λ o z.
+      (λ _. reads s (i + x) _ (λ _ y. reads s (i + x + y) _ (λ o z.
       method-not (j + d % word) (o % word) _ (methods-not n (i + x + y + z) (j + d % word)))))
       (λ _ e. omega arith))
 
   class-not : (i : ℕ) → Not (classDataAt s m i)
   class-not i =
-      class-any s m i Not (λ e. omega arith) (λ directs virtuals p.
+      class-any s m i Not (λ y e. reason-number y e) (λ directs virtuals p.
       on-not (methodsFrom directs s m p 0) _ (methods-not directs p 0) (λ f. methods-not virtuals f 0))
 
   successive-not : (n i : ℕ) → Not (successive n s m i)
@@ -139,7 +145,7 @@ slots-few s m (c ∷ cs) a = omega (arith, top-inside s m (c ∷ cs) a, lowest-o
 -- ---- what suffices
 module _ (s : List ℕ) (h : DexHeader) (room : Room) (a : h .methods .size ≤ room .starts) (b : length s / 16 ≤ room .slots) where
   from-enough : (w : Walk) → w ≡ codesOf s h → Not w → 3 * codesFound w ≤ room .triples → 3 * codesFound w ≤ room .shares → codesFound w ≤ 2 ^ 31
-      → builtFrom (h .methods .size) room w .number ≢ 4
+      → builtFrom (length s) (h .methods .size) room w .number ≢ 4
   from-enough (refused r) q n c d e = n
   from-enough (found cs x) q n c d e =
       let k : length (tableOf cs .shares) ≤ 3 * length cs = shares-few cs in

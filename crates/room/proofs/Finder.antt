@@ -1,5 +1,5 @@
 -- More room never makes the finder refuse. Its build and its scan come to the same; locate is given the same start words, and slots and
--- shares with more zeros behind them: the slots read alike, and a share that was inside is inside.
+-- shares with more zeros after them: the slots read alike, and a share that was inside is inside.
 -- Assumes nothing.
 use Prim.Native.Nat.{ℕ, _-_, _+_, _*_, _/_, _≤_}
 use native.Mathlib.Omega.{arith}
@@ -17,13 +17,12 @@ use Rattle.words.proofs.Shared.{case}
 use Rattle.refusal.specs.Refusals.{tooLarge}
 use Rattle.refusal.specs.Outcomes.{Outcome, refused}
 use Rattle.tinydex.specs.declared.DexHeader.{DexHeader}
-use Rattle.code_item_scan.specs.Scan.{Hit, offs, Scan, scanOut}
+use Rattle.code_item_scan.specs.Scan.{Hit, offs, Asked, asked, Scan, scanOut}
 use Rattle.code_table.specs.Slots.{shared, shareAt}
 use Rattle.code_table.specs.Build.{Build, buildOut}
 use Rattle.insn_locator.specs.Locate.{Tables, Answered, slotAt, firstOf, answeredBy, answered, consTo, andThen, locateFrom, locateAll, answersFrom, locateOut}
 use Rattle.insn_locator.specs.Answers.{tables}
-use Rattle.scan_locate.specs.Search.{Search, searched, searchOut}
-use Rattle.findrefs.specs.Find.{Lengths, found, searchOf, findOut}
+use Rattle.findrefs.specs.Find.{Lengths, Search, searched, searchOut, builtTables, found, searchOf, findOut}
 use Rattle.room.specs.Laws.{LongerAll}
 use Rattle.room.proofs.Branches.{same-else, same-then}
 use Rattle.room.proofs.Codes.{build-more}
@@ -109,7 +108,7 @@ module _ (s : List ℕ) (base : ℕ) (starts xs xs′ ws ws′ : List ℕ) (p : 
       (same-then n (leb (length entries) answers && leb (length starts) further) _ _ (refused 4)
       (answers-kept (locateAll s T entries) (locateAll s T′ entries) (from-kept entries (replicate (length starts) 0))))
 
--- ---- words with more zeros behind them
+-- ---- words with more zeros after them
 padded-same : (n n′ : ℕ) (xs : List ℕ) (i : ℕ) → getD (padded n xs) i 0 ≡ getD (padded n′ xs) i 0
 padded-same n n′ xs i = padded-at n xs i ∙ sym (padded-at n′ xs i)
 
@@ -129,39 +128,42 @@ searched-zero : (hits : List Hit) (A : Outcome) → searched hits A .number ≡ 
 searched-zero hits A e =
     ⊎-elim (λ (a : eqb (A .number) 0 ≡ true). eqb-true (A .number) 0 a) (λ (a : eqb (A .number) 0 ≡ false). rw a at e) (case (eqb (A .number) 0))
 
-module _ (s : List ℕ) (kind : ℕ) (wanted : List ℕ) (from to : ℕ) (xs zs ws : List ℕ) where
-  search-is : (X W o m f a : ℕ) → scanOut s kind wanted from to o m .number ≡ 0
-      → searchOut s kind wanted from to (padded X xs) zs (padded W ws) o m f a
-      ≡ searched (scanOut s kind wanted from to o m .hits)
-      (locateOut s (tables (from / 16) (padded X xs) zs (padded W ws)) (offs (scanOut s kind wanted from to o m .hits)) a f)
-  unfolding searchOut
-  search-is X W o m f a e = rw (eq-eqb (scanOut s kind wanted from to o m .number) 0 e)
+-- over the tables of a build, as long as L has them
+module _ (s : List ℕ) (A : Asked) (B : Build) where
+  abbrev searchIn : Lengths → Search
+  searchIn L = searchOut s A (builtTables B L) (L .hits) (L .further) (L .answers)
 
-  scan-zero : (X W o m f a : ℕ) → searchOut s kind wanted from to (padded X xs) zs (padded W ws) o m f a .number ≡ 0 → scanOut s kind wanted from to o m .number ≡ 0
+  search-is : (L : Lengths) → scanOut s A (L .hits) .number ≡ 0
+      → searchIn L
+      ≡ searched (scanOut s A (L .hits) .hits) (locateOut s (builtTables B L) (offs (scanOut s A (L .hits) .hits)) (L .answers) (L .further))
   unfolding searchOut
-  scan-zero X W o m f a e =
-      let n : ℕ = scanOut s kind wanted from to o m .number in
+  search-is L e = rw (eq-eqb (scanOut s A (L .hits) .number) 0 e)
+
+  scan-zero : (L : Lengths) → searchIn L .number ≡ 0 → scanOut s A (L .hits) .number ≡ 0
+  unfolding searchOut
+  scan-zero L e =
+      let n : ℕ = scanOut s A (L .hits) .number in
       ⊎-elim (λ (b : eqb n 0 ≡ true). eqb-true n 0 b) (λ (b : eqb n 0 ≡ false). rw b at e) (case (eqb n 0))
 
-  search-more : (X W o m f a X′ W′ o′ m′ f′ a′ : ℕ) → W ≤ W′ → o ≤ o′ → m ≤ m′ → f ≤ f′ → a ≤ a′
-      → searchOut s kind wanted from to (padded X xs) zs (padded W ws) o m f a .number ≡ 0
-      → searchOut s kind wanted from to (padded X′ xs) zs (padded W′ ws) o′ m′ f′ a′ ≡ searchOut s kind wanted from to (padded X xs) zs (padded W ws) o m f a
-  search-more X W o m f a X′ W′ o′ m′ f′ a′ hw ho hm hf ha e =
-      let S : Scan = scanOut s kind wanted from to o m in
-      let z : S .number ≡ 0 = scan-zero X W o m f a e in
-      let q : scanOut s kind wanted from to o′ m′ ≡ S = scan-more s kind wanted from to o m o′ m′ ho hm z in
-      let T₀ : Tables = tables (from / 16) (padded X xs) zs (padded W ws) in
-      let T₁ : Tables = tables (from / 16) (padded X′ xs) zs (padded W′ ws) in
-      let y : locateOut s T₀ (offs (S .hits)) a f .number ≡ 0 =
-      searched-zero (S .hits) (locateOut s T₀ (offs (S .hits)) a f) (rw (search-is X W o m f a z) at e) in
-      let t : locateOut s T₁ (offs (S .hits)) a f ≡ locateOut s T₀ (offs (S .hits)) a f =
-      tables-more s (from / 16) zs (padded X xs) (padded X′ xs) (padded W ws) (padded W′ ws) (padded-same X X′ xs) (padded-same W W′ ws)
-      (padded-longer W W′ ws hw) (offs (S .hits)) a f y in
-      let l : locateOut s T₁ (offs (S .hits)) a′ f′ ≡ locateOut s T₁ (offs (S .hits)) a f =
-      locate-more s T₁ (offs (S .hits)) a f a′ f′ ha hf (ap (λ (A : Outcome). A .number) t ∙ y) in
-      search-is X′ W′ o′ m′ f′ a′ (ap (λ (x : Scan). x .number) q ∙ z)
-      ∙ (ap (λ (x : Scan). searched (x .hits) (locateOut s T₁ (offs (x .hits)) a′ f′)) q
-      ∙ (ap (searched (S .hits)) (l ∙ t) ∙ sym (search-is X W o m f a z)))
+  search-more : (L L′ : Lengths) → LongerAll L L′ → searchIn L .number ≡ 0 → searchIn L′ ≡ searchIn L
+  search-more L L′ M e =
+      let S : Scan = scanOut s A (L .hits) in
+      let z : S .number ≡ 0 = scan-zero L e in
+      let q : scanOut s A (L′ .hits) ≡ S = scan-more s A (L .hits) (L′ .hits) (M .hits) z in
+      let T₀ : Tables = builtTables B L in
+      let T₁ : Tables = builtTables B L′ in
+      let y : locateOut s T₀ (offs (S .hits)) (L .answers) (L .further) .number ≡ 0 =
+      searched-zero (S .hits) (locateOut s T₀ (offs (S .hits)) (L .answers) (L .further)) (rw (search-is L z) at e) in
+      let t : locateOut s T₁ (offs (S .hits)) (L .answers) (L .further) ≡ locateOut s T₀ (offs (S .hits)) (L .answers) (L .further) =
+      tables-more s (B .from / 16) (B .starts) (padded (L .build .slots) (B .slots)) (padded (L′ .build .slots) (B .slots))
+      (padded (L .build .shares) (B .shares)) (padded (L′ .build .shares) (B .shares))
+      (padded-same (L .build .slots) (L′ .build .slots) (B .slots)) (padded-same (L .build .shares) (L′ .build .shares) (B .shares))
+      (padded-longer (L .build .shares) (L′ .build .shares) (B .shares) (M .build .shares)) (offs (S .hits)) (L .answers) (L .further) y in
+      let l : locateOut s T₁ (offs (S .hits)) (L′ .answers) (L′ .further) ≡ locateOut s T₁ (offs (S .hits)) (L .answers) (L .further) =
+      locate-more s T₁ (offs (S .hits)) (L .answers) (L .further) (L′ .answers) (L′ .further) (M .answers) (M .further) (ap (λ (o : Outcome). o .number) t ∙ y) in
+      search-is L′ (ap (λ (x : Scan). x .number) q ∙ z)
+      ∙ (ap (λ (x : Scan). searched (x .hits) (locateOut s T₁ (offs (x .hits)) (L′ .answers) (L′ .further))) q
+      ∙ (ap (searched (S .hits)) (l ∙ t) ∙ sym (search-is L z)))
 
 -- ---- the finder
 found-zero : (B : Build) (R : Search) → found B R .number ≡ 0 → R .number ≡ 0
@@ -190,8 +192,5 @@ module _ (s : List ℕ) (h : DexHeader) (kind : ℕ) (wanted : List ℕ) where
       let z : searchOf s kind wanted L B .number ≡ 0 = found-zero B (searchOf s kind wanted L B) (rw (find-is L b) at e) in
       find-is L′ (ap (λ (x : Build). x .number) q ∙ b)
       ∙ (ap (λ (x : Build). found x (searchOf s kind wanted L′ x)) q
-      ∙ (ap (found B)
-      (search-more s kind wanted (B .from) (B .to) (B .slots) (B .starts) (B .shares) (L .build .slots) (L .build .shares) (L .offs) (L .marks) (L .further)
-      (L .answers) (L′ .build .slots) (L′ .build .shares) (L′ .offs) (L′ .marks) (L′ .further) (L′ .answers) (M .build .shares) (M .offs) (M .marks)
-      (M .further) (M .answers) z)
+      ∙ (ap (found B) (search-more s (asked kind wanted (B .from) (B .to)) B L L′ M z)
       ∙ sym (find-is L b)))

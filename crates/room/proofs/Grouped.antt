@@ -1,12 +1,12 @@
--- Room for groups and for the string map. A pool of so many keys has one offset more, no more ids are grouped than there are, and the map's
+-- Room for groups and for the string map. A pool of that many keys has one offset more, no more ids are grouped than there are, and the map's
 -- test of room asks for a key a string before it looks at any.
 -- Assumes nothing.
 use Prim.Native.Nat.{ℕ, suc, _+_, _≤_}
 use native.Mathlib.Omega.{arith}
-use mathlib.Core.Path.{_≡_}
-use mathlib.Core.Logic.{_≢_}
-use mathlib.Core.Bool.{false, _||_}
-use mathlib.Core.List.{List}
+use mathlib.Core.Path.{_≡_, ap₂}
+use mathlib.Core.Logic.{_≢_, ⊎-elim}
+use mathlib.Core.Bool.{false}
+use mathlib.Core.List.{List, [], _∷_}
 use lib.ListN.{length}
 use lib.Dec.{ltb, leb, eqb}
 use borrow.Author.Tests.{le-ltb}
@@ -15,46 +15,48 @@ use Rattle.refusal.specs.Refusals.{tooLarge}
 use Rattle.tinydex.specs.declared.DexHeader.{DexHeader}
 use Rattle.tinydex.specs.declared.Table.{Table}
 use Rattle.groups.specs.Groups.{grouped, offsets, start}
-use Rattle.groups.specs.Built.{Groups, groupsOf, short, passes, Outcome, outcome, refused}
+use Rattle.groups.specs.Built.{GroupWords, groupsOf, short, passes, Outcome, fitting, outcome, refused}
+use Rattle.groups.specs.Join.{firstRefusal}
+use Rattle.groups.proofs.Join.{first-zero, first-among}
 use Rattle.groups.proofs.Lists.{length-tabulate}
 use Rattle.groups.proofs.Groups.{few}
 use Rattle.method_locator.specs.Built as m
-use Rattle.leb128.specs.Leb.{ulebLen, onLen}
-use Rattle.leb128.specs.declared.Len.{Len}
-use Rattle.leb128.specs.declared.Len.the-variants as l
 use Rattle.string_data.specs.Text.{firstZero, onZero}
 use Rattle.string_data.specs.declared.Zero.{Zero}
 use Rattle.string_data.specs.declared.Zero.the-variants as z
+use Rattle.string_locator.proofs.LengthBytes.{length-any}
 use Rattle.string_locator.specs.Map.{MapOutcome, none, area, greatest, textArea, stringsArea, mapOutcome}
+use Rattle.room.specs.Laws.{LongerGroups}
 use Rattle.room.proofs.Branches.{same-else, room-else, more-ltb, more-either, neither}
 
 -- ---- more room
-more-short : (g : Groups) (l m l′ m′ : ℕ) → l ≤ l′ → m ≤ m′ → short g l m ≡ false → short g l′ m′ ≡ false
+more-short : (g : GroupWords) (l m l′ m′ : ℕ) → l ≤ l′ → m ≤ m′ → short g l m ≡ false → short g l′ m′ ≡ false
 more-short g l m l′ m′ a b =
     more-either (ltb l (length (g .offs))) (ltb m (length (g .ids))) (ltb l′ (length (g .offs))) (ltb m′ (length (g .ids)))
     (more-ltb (length (g .offs)) l l′ a) (more-ltb (length (g .ids)) m m′ b)
 
-pub groups-more : (len : ℕ) (key : ℕ → ℕ) (t : Table) (size pool l m l′ m′ : ℕ) → l ≤ l′ → m ≤ m′ → outcome len key t size pool l m .number ≡ 0
-    → outcome len key t size pool l′ m′ ≡ outcome len key t size pool l m
+fitting-more : (g : GroupWords) (l m l′ m′ : ℕ) → l ≤ l′ → m ≤ m′ → fitting g l m .number ≡ 0 → fitting g l′ m′ ≡ fitting g l m
+unfolding fitting
+fitting-more g l m l′ m′ a b =
+    room-else (λ (o : Outcome). o .number) (short g l m) (short g l′ m′) (refused 4) (record { number = 0; groups = g }) (λ e. omega arith) (more-short g l m l′ m′ a b)
+
+pub groups-more : (len : ℕ) (t : Table) (size : ℕ) (g before before′ : GroupWords) → LongerGroups before before′ → outcome len t size g before .number ≡ 0
+    → outcome len t size g before′ ≡ outcome len t size g before
 unfolding outcome
-groups-more len key t size pool l m l′ m′ a b =
+groups-more len t size g b b′ m =
     let n : Outcome → ℕ = λ o. o .number in
-    let g : Groups = groupsOf key (t .size) pool in
     same-else n (tooLarge len) (refused 1) _ _
     (same-else n (passes len t size) (refused 3) _ _
-    (room-else n (short g l m) (short g l′ m′) (refused 4) (record { number = 0; groups = g }) (λ e. omega arith) (more-short g l m l′ m′ a b)))
+    (fitting-more g (length (b .offs)) (length (b .ids)) (length (b′ .offs)) (length (b′ .ids)) (m .offs) (m .ids)))
 
-pub methods-more : (s : List ℕ) (h : DexHeader) (co cm fo fm co′ cm′ fo′ fm′ : ℕ) → co ≤ co′ → cm ≤ cm′ → fo ≤ fo′ → fm ≤ fm′
-    → m.outcome s h co cm fo fm .number ≡ 0 → m.outcome s h co′ cm′ fo′ fm′ ≡ m.outcome s h co cm fo fm
-unfolding m.outcome
-methods-more s h co cm fo fm co′ cm′ fo′ fm′ a b c d =
-    let n : m.Outcome → ℕ = λ o. o .number in
-    let g : Groups = m.clzGroups s h in
-    let f : Groups = m.nameGroups s h in
-    same-else n (tooLarge (length s)) (m.refused 1) _ _
-    (same-else n (passes (length s) (h .methods) methodIdSize) (m.refused 3) _ _
-    (room-else n (short g co cm || short f fo fm) (short g co′ cm′ || short f fo′ fm′) (m.refused 4) (record { number = 0; clz = g; name = f }) (λ e. omega arith)
-    (more-either (short g co cm) (short f fo fm) (short g co′ cm′) (short f fo′ fm′) (more-short g co cm co′ cm′ a b) (more-short f fo fm fo′ fm′ c d))))
+pub methods-more : (s : List ℕ) (h : DexHeader) (before before′ : m.MethodWords) → LongerGroups (before .clz) (before′ .clz) → LongerGroups (before .name) (before′ .name)
+    → m.outcome s h before .number ≡ 0 → m.outcome s h before′ ≡ m.outcome s h before
+unfolding m.joint
+methods-more s h before before′ a b e =
+    let c = first-zero (m.clzOutcome s h (before .clz) .number) (m.nameOutcome s h (before .name) .number ∷ []) e in
+    let f = first-zero (m.nameOutcome s h (before .name) .number) [] (c .1) in
+    ap₂ m.joint (groups-more (length s) (h .methods) methodIdSize (m.clzGroups s h) (before .clz) (before′ .clz) a (c .0))
+    (groups-more (length s) (h .methods) methodIdSize (m.nameGroups s h) (before .name) (before′ .name) b (f .0))
 
 pub map-more : (s : List ℕ) (table n lent lent′ : ℕ) → lent ≤ lent′ → mapOutcome s table n lent .number ≡ 0
     → mapOutcome s table n lent′ ≡ mapOutcome s table n lent
@@ -75,32 +77,27 @@ not-short key n pool l m a b =
       le-ltb m (length (grouped key n pool)) (omega (arith, few key n pool)),
     )
 
-pub groups-enough : (len : ℕ) (key : ℕ → ℕ) (t : Table) (size pool l m : ℕ) → pool + 1 ≤ l → t .size ≤ m → outcome len key t size pool l m .number ≢ 4
-unfolding outcome
-groups-enough len key t size pool l m a b =
+pub groups-enough : (len : ℕ) (t : Table) (size : ℕ) (key : ℕ → ℕ) (pool : ℕ) (before : GroupWords) → pool + 1 ≤ length (before .offs) → t .size ≤ length (before .ids)
+    → outcome len t size (groupsOf key (t .size) pool) before .number ≢ 4
+unfolding outcome fitting
+groups-enough len t size key pool before a b =
     let n : Outcome → ℕ = λ o. o .number in
     neither n (tooLarge len) (refused 1) _ (λ e. omega arith)
-    (neither n (passes len t size) (refused 3) _ (λ e. omega arith) (rw (not-short key (t .size) pool l m a b) (λ e. omega arith)))
+    (neither n (passes len t size) (refused 3) _ (λ e. omega arith)
+    (rw (not-short key (t .size) pool (length (before .offs)) (length (before .ids)) a b) (λ e. omega arith)))
 
-pub methods-enough : (s : List ℕ) (h : DexHeader) (co cm fo fm : ℕ) → h .types .size + 1 ≤ co → h .methods .size ≤ cm → h .strings .size + 1 ≤ fo
-    → h .methods .size ≤ fm → m.outcome s h co cm fo fm .number ≢ 4
-unfolding m.outcome
-methods-enough s h co cm fo fm a b c d =
-    let n : m.Outcome → ℕ = λ o. o .number in
-    neither n (tooLarge (length s)) (m.refused 1) _ (λ e. omega arith)
-    (neither n (passes (length s) (h .methods) methodIdSize) (m.refused 3) _ (λ e. omega arith)
-    (rw (
-      not-short (method-class-idx s (h .methods .off)) (h .methods .size) (h .types .size) co cm a b,
-      not-short (method-name-idx s (h .methods .off)) (h .methods .size) (h .strings .size) fo fm c d,
-    ) (λ e. omega arith)))
+pub methods-enough : (s : List ℕ) (h : DexHeader) (before : m.MethodWords) → h .types .size + 1 ≤ length (before .clz .offs) → h .methods .size ≤ length (before .clz .ids)
+    → h .strings .size + 1 ≤ length (before .name .offs) → h .methods .size ≤ length (before .name .ids) → m.outcome s h before .number ≢ 4
+unfolding m.joint firstRefusal
+methods-enough s h before a b c d e =
+    ⊎-elim (groups-enough (length s) (h .methods) methodIdSize (method-class-idx s (h .methods .off)) (h .types .size) (before .clz) a b)
+    (λ z. ⊎-elim (groups-enough (length s) (h .methods) methodIdSize (method-name-idx s (h .methods .off)) (h .strings .size) (before .name) c d) (λ y. omega arith)
+    (first-among (m.nameOutcome s h (before .name) .number) [] 4 z))
+    (first-among (m.clzOutcome s h (before .clz) .number) (m.nameOutcome s h (before .name) .number ∷ []) 4 e)
 
--- behind the test of room there is only 5
+-- after the test of room there is only 5
 abbrev Not : MapOutcome → Type 0
 Not o = o .number ≢ 4
-
-at-len : (r : Len) (f : ℕ → MapOutcome) → ((k : ℕ) → Not (f k)) → Not (onLen r (none 5) f)
-at-len (l.Bytes n) f g = g n
-at-len l.RunsOff f g = λ e. omega arith
 
 at-zero : (r : Zero) (f : ℕ → MapOutcome) → ((k : ℕ) → Not (f k)) → Not (onZero r (none 5) f)
 at-zero (z.Behind n) f g = g n
@@ -110,7 +107,7 @@ area-five : (s : List ℕ) (table n : ℕ) → Not (stringsArea s table n)
 unfolding stringsArea textArea
 area-five s table n =
     neither (λ (o : MapOutcome). o .number) (leb (length s) (greatest s table n)) (none 5) _ (λ e. omega arith)
-    (at-len (ulebLen s (greatest s table n)) _ (λ k. at-zero (firstZero s (greatest s table n + k)) _ (λ x e. omega arith)))
+    (length-any Not s (greatest s table n) (none 5) _ (λ e. omega arith) (λ k. at-zero (firstZero s (greatest s table n + k)) _ (λ x e. omega arith)))
 
 pub map-enough : (s : List ℕ) (table n lent : ℕ) → n ≤ lent → mapOutcome s table n lent .number ≢ 4
 unfolding mapOutcome

@@ -4,9 +4,10 @@ use native.Mathlib.Omega.{arith}
 use lib.ListN.{length}
 use Rattle.dalvik.specs.Ids.{typeIdSize, type-descriptor-idx}
 use Rattle.string_search.specs.Search.{searchFault}
-use Rattle.name_faults.specs.Faults.{filterFault}
+use Rattle.method_search.specs.Methods.{searchFor}
+use Rattle.name_filter.specs.Faults.{filterFault}
 use Rattle.request.proofs.Room.{sixteen-suffice, more-room as request-more}
-use Rattle.listing_text.proofs.Room.{head-room, entry-room, refusal-room}
+use Rattle.refs_program.proofs.TextRoom.{head-room, entry-room, refusal-room}
 use Rattle.room.specs.Laws.{MoreRoom, NoFour}
 use Rattle.room.proofs.Grouped as g
 use Rattle.room.proofs.Searches as s
@@ -20,8 +21,8 @@ more-room = record {
   groups = g.groups-more;
   method-groups = g.methods-more;
   string-map = g.map-more;
-  string-search = λ f ks a e q r r′ out out₁ out′ out₁′ F G.
-      s.found-more (searchFault (length f) 1 (length q) ks) (searchFault (length f) 1 (length q) ks) r r′ out out₁ out′ out₁′ F G (λ z. z);
+  string-search = λ w q r r′ out out₁ out′ out₁′ F G.
+      s.found-more (searchFault (length (w .file)) 1 (length q) (w .keys)) (searchFault (length (w .file)) 1 (length q) (w .keys)) r r′ out out₁ out′ out₁′ F G (λ z. z);
   type-search = s.types-more;
   method-search = s.methods-more;
   name-filter = λ f q given r r′ out out₁ out′ out₁′ F G. s.found-more (filterFault f q given) (filterFault f q given) r r′ out out₁ out′ out₁′ F G (λ z. z);
@@ -34,19 +35,19 @@ more-room = record {
   head-text = λ kind hits m n h. head-room m n h kind hits;
   entry-text = λ off idx mids m n h. entry-room m n h off idx mids;
   refusal-text = λ why m n h. refusal-room m n h why;
-  line = λ offs marks answers shares w b w′ b′ i h k. entry-more w b w′ b′ h k offs marks answers shares i;
-  lines = λ offs marks answers shares w b w′ b′ h k. entries-more w b w′ b′ h k offs marks answers shares;
+  line = λ E w b w′ b′ i h k. entry-more w b w′ b′ h k E i;
+  lines = λ E w b w′ b′ h k. entries-more w b w′ b′ h k E;
 }
 
 pub no-four : NoFour
 no-four = record {
-  type-groups = λ f h offs ids a b.
-      g.groups-enough (length f) (type-descriptor-idx f (h .types .off)) (h .types) typeIdSize (h .strings .size) offs ids (omega arith) (omega arith);
+  type-groups = λ f h before a b.
+      g.groups-enough (length f) (h .types) typeIdSize (type-descriptor-idx f (h .types .off)) (h .strings .size) before (omega arith) (omega arith);
   method-groups = g.methods-enough;
   string-map = λ f h keys. g.map-enough f (h .strings .off) (h .strings .size) keys;
   string-search = s.strings-enough;
   type-search = s.types-enough;
-  method-search = λ f h. s.methods-enough f (h .methods);
+  method-search = λ w q table h. s.methods-enough (searchFor w q table (h .methods));
   name-filter = s.names-enough;
   code-table = build-enough;
   scan = scan-enough;

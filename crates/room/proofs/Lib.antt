@@ -7,4 +7,3 @@ pub mod Finder
 pub mod Texts
 pub mod Supposed
 pub mod Held
-pub mod Case

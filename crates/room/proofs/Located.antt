@@ -17,116 +17,54 @@ use Rattle.refusal.specs.Outcomes.{Outcome, refused, success}
 use Rattle.dalvik.specs.Numbers.{byte}
 use Rattle.dalvik.specs.Instructions.{Kind}
 use Rattle.dalvik.specs.Instructions.Kind.{strings, types, fields, methods}
-use Rattle.index_width.specs.Width.{widthOf}
-use Rattle.index_width.specs.Kinds.{kindNumber, kindOf, isStrings}
-use Rattle.code_item_scan.specs.Scan.{isTried, isHit, hitsIn, hitsOf, Scan, noScan, scanned, scannedAs, scanOut}
+use Rattle.kinds.specs.Width.{widthOf}
+use Rattle.kinds.specs.Kinds.{kindNumber, kindOf, isStrings}
+use Rattle.code_item_scan.specs.Scan.{Hit, hitsOf, Asked, HitRoom, Scan, noScan, scanned, scannedAs, scanOut}
 use Rattle.code_table.specs.Slots.{shared, shareAt}
 use Rattle.insn_locator.specs.Locate.{Tables, locateAll, answersFrom, locateOut}
-use Rattle.insn_locator.specs.Listing.{snocTo, chain, listed, listedFrom, listOut}
-use Rattle.demand.proofs.Hits.{hits-few}
-use Rattle.room.specs.Enough.{hitWords}
+use Rattle.slot_listing.specs.Listing.{snocTo, chain, listed, listedFrom, listOut}
+use Rattle.completeness.specs.Completeness.{mostEntries}
+use Rattle.completeness.proofs.Tried.{words-more, few-hits}
+use Rattle.room.specs.Laws.{LongerHits}
 use Rattle.room.proofs.Branches.{same-else, same-then, room-then, more-leb, more-both, neither}
 
 -- ---- scan
-pub words-more : (number a b : ℕ) → a ≤ b → hitWords number a ≤ hitWords number b
-words-more number a b h =
-    ⊎-elim (λ (e : eqb number 1 ≡ true). rw e h) (λ (e : eqb number 1 ≡ false). rw e (omega arith)) (case (eqb number 1))
-
--- a kind has one number
-one-kind : (x y : Kind) → some x ≡ some y → x ≡ y
-one-kind x y e = cc
-
-no-kind : (y : Kind) → none ≡ some y → ⊥
-no-kind y e = let z : _≡_ {A = ℕ} 0 1 = cc in omega arith
-
-pub its-number : (number : ℕ) (kind : Kind) → kindOf number ≡ some kind → number ≡ kindNumber kind
-unfolding kindOf
-its-number number kind =
-    cond-elim Is (eqb number 1) (some strings) _ (λ a. is strings (eqb-true number 1 a))
-    (λ _. cond-elim Is (eqb number 2) (some types) _ (λ a. is types (eqb-true number 2 a))
-    (λ _. cond-elim Is (eqb number 3) (some fields) _ (λ a. is fields (eqb-true number 3 a))
-    (λ _. cond-elim Is (eqb number 4) (some methods) none (λ a. is methods (eqb-true number 4 a)) (λ _ e. absurd (no-kind kind e)))))
-  where
-    Is : Option Kind → Type 0
-    Is o = o ≡ some kind → number ≡ kindNumber kind
-
-    is : (x : Kind) → number ≡ kindNumber x → Is (some x)
-    is x q e = q ∙ ap kindNumber (one-kind x kind e)
-
-other : (number : ℕ) → eqb number 1 ≡ false → (kind : Kind) → number ≡ kindNumber kind → isStrings kind ≡ false
-other number a strings e = absurd (eqb-false number 1 a e)
-other number a types e = refl
-other number a fields e = refl
-other number a methods e = refl
-
-module _ (s : List ℕ) (wanted : List ℕ) (from to : ℕ) where
-  scanned-more : (offs marks offs′ marks′ : ℕ) → offs ≤ offs′ → marks ≤ marks′ → (k : Option Kind) → scannedAs s wanted from to offs marks k .number ≡ 0
-      → scannedAs s wanted from to offs′ marks′ k ≡ scannedAs s wanted from to offs marks k
-  scanned-more offs marks offs′ marks′ a b none = λ e. refl
-  scanned-more offs marks offs′ marks′ a b (some kind) =
+module _ (s : List ℕ) (A : Asked) (room : HitRoom) where
+  scanned-more : (room′ : HitRoom) → LongerHits room room′ → (k : Option Kind) → scannedAs s A room k .number ≡ 0 → scannedAs s A room′ k ≡ scannedAs s A room k
+  scanned-more room′ M none = λ e. refl
+  scanned-more room′ M (some kind) =
       let n : Scan → ℕ = λ o. o .number in
-      let k : ℕ = length (hitsOf s kind wanted from to) in
-      same-then n (leb from to && leb to (length s)) _ _ (noScan 12)
-      (room-then n (leb k offs && leb k marks) (leb k offs′ && leb k marks′) _ _ (noScan 4) (λ z. omega arith)
-      (more-both (leb k offs) (leb k marks) (leb k offs′) (leb k marks′) (more-leb k offs offs′ a) (more-leb k marks marks′ b))
+      let k : ℕ = length (hitsOf s kind (A .wanted) (A .from) (A .to)) in
+      same-then n (leb (A .from) (A .to) && leb (A .to) (length s)) _ _ (noScan 12)
+      (room-then n (leb k (room .offs) && leb k (room .marks)) (leb k (room′ .offs) && leb k (room′ .marks)) _ _ (noScan 4) (λ z. omega arith)
+      (more-both (leb k (room .offs)) (leb k (room .marks)) (leb k (room′ .offs)) (leb k (room′ .marks)) (more-leb k (room .offs) (room′ .offs) (M .offs))
+      (more-leb k (room .marks) (room′ .marks) (M .marks)))
       (λ z. refl))
 
-  -- of the kinds other than strings every second start is tried
-  tried-even : (kind : Kind) → isStrings kind ≡ false → (d : ℕ) → isTried kind d ≡ true → d % 2 ≡ 0
-  unfolding isTried
-  tried-even strings n d e = absurd (let z : _≡_ {A = ℕ} 0 1 = cc in omega arith)
-  tried-even types n d e = eqb-true (d % 2) 0 e
-  tried-even fields n d e = eqb-true (d % 2) 0 e
-  tried-even methods n d e = eqb-true (d % 2) 0 e
-
-  half : (kind : Kind) → isStrings kind ≡ false → (n p : ℕ) → from ≤ p → length (hitsIn n s kind wanted from to p) ≤ (n + 1 - (p - from) % 2) / 2
-  unfolding hitsIn
-  half kind k zero p h = omega arith
-  half kind k (suc n) p h =
-      let rest : length (hitsIn n s kind wanted from to (suc p)) ≤ (n + 1 - (suc p - from) % 2) / 2 = half kind k n (suc p) (omega arith) in
-      let w : ℕ = widthOf kind (byte s p) in
-      let t : Bool = isTried kind (p - from) in
-      ⊎-elim
-      (λ (e : isHit s kind wanted from to p ≡ true).
-      let even : (p - from) % 2 ≡ 0 =
-      tried-even kind k (p - from)
-      (and-left t (ltb 0 w) (and-left (t && ltb 0 w) (leb (p + 2 + w) to) (and-left (t && ltb 0 w && leb (p + 2 + w) to) _ e))) in
-      rw e (omega arith))
-      (λ (e : isHit s kind wanted from to p ≡ false). rw e (omega arith))
-      (case (isHit s kind wanted from to p))
-
-  pub few-hits : (number : ℕ) (kind : Kind) → kindOf number ≡ some kind → length (hitsOf s kind wanted from to) ≤ hitWords number (to - from)
-  unfolding hitsOf
-  few-hits number kind e =
-      ⊎-elim
-      (λ (a : eqb number 1 ≡ true). rw a (hits-few s kind wanted from to (to - from) from))
-      (λ (a : eqb number 1 ≡ false). rw a (omega (arith, half kind (other number a kind (its-number number kind e)) (to - from) from (omega arith))))
-      (case (eqb number 1))
-
-  scanned-enough : (number offs marks : ℕ) → hitWords number (length s) ≤ offs → hitWords number (length s) ≤ marks → (k : Option Kind) → kindOf number ≡ k
-      → scannedAs s wanted from to offs marks k .number ≢ 4
-  scanned-enough number offs marks a b none q = λ z. omega arith
-  scanned-enough number offs marks a b (some kind) q =
-      cond-elim (λ (o : Scan). o .number ≢ 4) (leb from to && leb to (length s)) (scanned offs marks (hitsOf s kind wanted from to)) (noScan 12)
+  scanned-enough : mostEntries (A .kind) (length s) ≤ room .offs → mostEntries (A .kind) (length s) ≤ room .marks → (k : Option Kind) → kindOf (A .kind) ≡ k
+      → scannedAs s A room k .number ≢ 4
+  scanned-enough a b none q = λ z. omega arith
+  scanned-enough a b (some kind) q =
+      let hits : List Hit = hitsOf s kind (A .wanted) (A .from) (A .to) in
+      cond-elim (λ (o : Scan). o .number ≢ 4) (leb (A .from) (A .to) && leb (A .to) (length s)) (scanned room hits) (noScan 12)
       (λ i.
-      let t : to ≤ length s = leb-true to (length s) (and-right (leb from to) (leb to (length s)) i) in
-      let few : length (hitsOf s kind wanted from to) ≤ hitWords number (to - from) = few-hits number kind q in
-      let most : hitWords number (to - from) ≤ hitWords number (length s) = words-more number (to - from) (length s) (omega arith) in
-      rw (le-leb (length (hitsOf s kind wanted from to)) offs (omega arith), le-leb (length (hitsOf s kind wanted from to)) marks (omega arith))
+      let t : A .to ≤ length s = leb-true (A .to) (length s) (and-right (leb (A .from) (A .to)) (leb (A .to) (length s)) i) in
+      let few : length hits ≤ mostEntries (A .kind) (A .to - A .from) = few-hits s (A .wanted) (A .from) (A .to) (A .kind) kind q in
+      let most : mostEntries (A .kind) (A .to - A .from) ≤ mostEntries (A .kind) (length s) = words-more (A .kind) (A .to - A .from) (length s) (omega arith) in
+      rw (le-leb (length hits) (room .offs) (omega arith), le-leb (length hits) (room .marks) (omega arith))
       (λ z. omega arith))
       (λ _ z. omega arith)
 
-pub scan-more : (s : List ℕ) (kind : ℕ) (wanted : List ℕ) (from to offs marks offs′ marks′ : ℕ) → offs ≤ offs′ → marks ≤ marks′
-    → scanOut s kind wanted from to offs marks .number ≡ 0 → scanOut s kind wanted from to offs′ marks′ ≡ scanOut s kind wanted from to offs marks
+pub scan-more : (s : List ℕ) (A : Asked) (room room′ : HitRoom) → LongerHits room room′ → scanOut s A room .number ≡ 0 → scanOut s A room′ ≡ scanOut s A room
 unfolding scanOut
-scan-more s kind wanted from to offs marks offs′ marks′ a b =
-    same-else (λ (o : Scan). o .number) (tooLarge (length s)) (noScan 1) _ _ (scanned-more s wanted from to offs marks offs′ marks′ a b (kindOf kind))
+scan-more s A room room′ M =
+    same-else (λ (o : Scan). o .number) (tooLarge (length s)) (noScan 1) _ _ (scanned-more s A room room′ M (kindOf (A .kind)))
 
-pub scan-enough : (s : List ℕ) (kind : ℕ) (wanted : List ℕ) (from to offs marks : ℕ) → hitWords kind (length s) ≤ offs → hitWords kind (length s) ≤ marks
-    → scanOut s kind wanted from to offs marks .number ≢ 4
+pub scan-enough : (s : List ℕ) (A : Asked) (room : HitRoom) → mostEntries (A .kind) (length s) ≤ room .offs → mostEntries (A .kind) (length s) ≤ room .marks
+    → scanOut s A room .number ≢ 4
 unfolding scanOut
-scan-enough s kind wanted from to offs marks a b =
-    neither (λ (o : Scan). o .number) (tooLarge (length s)) (noScan 1) _ (λ z. omega arith) (scanned-enough s wanted from to kind offs marks a b (kindOf kind) refl)
+scan-enough s A room a b =
+    neither (λ (o : Scan). o .number) (tooLarge (length s)) (noScan 1) _ (λ z. omega arith) (scanned-enough s A room a b (kindOf (A .kind)) refl)
 
 -- ---- locate
 answers-not : (r : Option (List ℕ)) → answersFrom r .number ≢ 4

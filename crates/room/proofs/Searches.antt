@@ -4,7 +4,7 @@
 use Prim.Native.Nat.{ℕ, zero, suc, _+_, _-_, _≤_, max}
 use native.Mathlib.Omega.{arith}
 use mathlib.Core.Path.{_≡_, refl, sym, ap, _∙_, subst}
-use mathlib.Core.Logic.{_≢_, _⊎_, inl, inr, ⊎-elim}
+use mathlib.Core.Logic.{_≢_, ⊎-elim}
 use mathlib.Core.Bool.{Bool, true, false, cond, not, _&&_, _||_}
 use mathlib.Core.List.{List, [], _∷_, map}
 use lib.ListN.{length, getD, take, drop, length-take, length-drop, length-map}
@@ -19,26 +19,24 @@ use Rattle.refusal.specs.declared.Answer.{Answer}
 use Rattle.refusal.specs.Refusals.{answerNumber, answerCount, tooLarge}
 use Rattle.refusal.specs.Outcomes.{Outcome, success}
 use Rattle.tinydex.specs.declared.Table.{Table}
-use Rattle.groups.specs.Built.{passes}
-use Rattle.group_slice.specs.Stretch.{between, stretchOf}
-use Rattle.rising.specs.Rising.{In, SetOf}
-use Rattle.rising.specs.Found.{Found, fitted}
-use Rattle.rising.proofs.Sets.{in-here, in-cons, in-none, set-unique}
-use Rattle.rising.proofs.Collected.{padded-take}
-use Rattle.rising.proofs.Few.{set-in, set-below}
-use Rattle.string_keys.specs.Keys.{keyIndex, keyOffset, goodKeys}
+use Rattle.groups.specs.Built.{GroupWords, passes}
+use Rattle.groups.specs.Stretch.{between, stretchOf}
+use Rattle.word_set.specs.Sets.{In, SetOf}
+use Rattle.word_set.specs.Found.{Found, fitted}
+use Rattle.word_set.proofs.Sets.{in-none, set-unique}
+use Rattle.word_set.proofs.Collected.{padded-take}
+use Rattle.word_set.proofs.Few.{set-in, set-below}
+use Rattle.string_search.specs.Keys.{keyIndex, goodKeys}
+use Rattle.string_search.proofs.Owners.{owner-in}
 use Rattle.string_data.specs.Text as text
 use Rattle.string_data.specs.declared.Zero.{Zero}
 use Rattle.string_data.specs.declared.Zero.the-variants as z
-use Rattle.string_search.specs.Keys.{reaches, orElse, owner}
-use Rattle.string_search.specs.Search.{Owns, searchFault}
-use Rattle.string_search.specs.declared.Owner.{Owner}
-use Rattle.string_search.specs.declared.Owner.the-variants.{Entry, Absent}
-use Rattle.type_search.specs.Types.{TypeFound, orShort, Searched}
+use Rattle.string_search.specs.Search.{Area, Owns, searchFault}
+use Rattle.type_search.specs.Types.{TypeFound, TypeWords, orShort, Searched}
 use Rattle.method_search.specs.Methods as search
-use Rattle.method_search.specs.Methods.{settles, lentFault}
-use Rattle.matches_name.specs.Names.{isAscii}
-use Rattle.name_faults.specs.Faults.{textFault, nameFault, firstFault, headFault, filterFault}
+use Rattle.method_search.specs.Methods.{SearchWords, Lists, settles, lentFault}
+use Rattle.name_filter.specs.HasName.{isAscii}
+use Rattle.name_filter.specs.Faults.{textFault, nameFault, firstFault, headFault, filterFault}
 use Rattle.name_filter.specs.Names.{Named}
 use Rattle.room.specs.Laws.{SameList}
 use Rattle.room.proofs.Branches.{neither}
@@ -127,35 +125,12 @@ in-stretch {x} offs ids k =
     (λ _ i. in-drop a ids (in-take (e - a) (drop a ids) i)) (λ _ i. absurd (in-none i)))
     (λ _ i. absurd (in-none i))
 
--- an owner's index is a key's
-reaches-is : (k p x : ℕ) → reaches k p ≡ Entry x → x ≡ keyIndex k
-reaches-is k p x =
-    cond-elim (λ (o : Owner). o ≡ Entry x → x ≡ keyIndex k) (leb (keyOffset k) p) (Entry (keyIndex k)) Absent (λ _ e. cc)
-    (λ _ e. absurd (let z : _≡_ {A = ℕ} 0 1 = cc in omega arith))
+owners-few : (w : Area) (q xs : List ℕ) → SetOf (Owns w q) xs → length xs ≤ length (w .keys)
+owners-few w q xs S =
+    omega (arith, set-in (map keyIndex (w .keys)) (λ x o. owner-in (w .keys) (o .owned .at) x (o .owned .owns)) S, length-map (w .keys) keyIndex)
 
-either-is : (o o′ : Owner) (x : ℕ) → orElse o o′ ≡ Entry x → (o ≡ Entry x) ⊎ (o′ ≡ Entry x)
-either-is (Entry i) o′ x e = inl e
-either-is Absent o′ x e = inr e
-
-abbrev keyIndices : List ℕ → List ℕ
-keyIndices = map keyIndex
-
-owner-in : (ks : List ℕ) (p x : ℕ) → owner ks p ≡ Entry x → In x (keyIndices ks)
-unfolding owner
-owner-in [] p x e = absurd (let z : _≡_ {A = ℕ} 0 1 = cc in omega arith)
-owner-in (k ∷ ks) p x e =
-    ⊎-elim
-    (λ (f : owner ks p ≡ Entry x). in-cons (keyIndex k) (owner-in ks p x f))
-    (λ (f : reaches k p ≡ Entry x).
-    subst (λ (y : ℕ). In y (keyIndices (k ∷ ks))) (sym (reaches-is k p x f)) (in-here (keyIndex k) (keyIndices ks)))
-    (either-is (owner ks p) (reaches k p) x e)
-
-owners-few : (s ks : List ℕ) (a e : ℕ) (q xs : List ℕ) → SetOf (Owns s ks a e q) xs → length xs ≤ length ks
-owners-few s ks a e q xs S =
-    omega (arith, set-in (keyIndices ks) (λ x o. owner-in ks (o .owned .at) x (o .owned .owns)) S, length-map ks keyIndex)
-
-types-few : (s ks : List ℕ) (a e : ℕ) (q offs ids xs : List ℕ) → SetOf (TypeFound s ks a e q offs ids) xs → length xs ≤ length ids
-types-few s ks a e q offs ids xs S = set-in ids (λ x t. in-stretch offs ids (t .string) (t .among)) S
+types-few : (w : Area) (q : List ℕ) (table : GroupWords) (xs : List ℕ) → SetOf (TypeFound w q table) xs → length xs ≤ length (table .ids)
+types-few w q table xs S = set-in (table .ids) (λ x t. in-stretch (table .offs) (table .ids) (t .string) (t .among)) S
 
 -- ---- the faults before room is looked at have other numbers
 search-fault : (len shortest n : ℕ) (ks : List ℕ) → searchFault len shortest n ks ≢ 4
@@ -216,83 +191,85 @@ filter-fault s q given =
     (neither n (ltb 255 (length q) || not (isAscii q)) 9 0 (λ e. omega arith) (λ e. omega arith))))
 
 -- ---- the operations
-module _ (s ks : List ℕ) (a e : ℕ) where
-  pub strings-enough : (q : List ℕ) (r : Answer) (out out₁ : List ℕ) → Found (Owns s ks a e q) (searchFault (length s) 1 (length q) ks) r out out₁
-      → length ks ≤ length out → answerNumber r ≢ 4
-  strings-enough q r out out₁ F h =
-      found-enough (searchFault (length s) 1 (length q) ks) r out out₁ F (search-fault (length s) 1 (length q) ks)
-      (λ xs S. omega (arith, owners-few s ks a e q xs S))
+module _ (w : Area) (q : List ℕ) where
+  pub strings-enough : (r : Answer) (out out₁ : List ℕ) → Found (Owns w q) (searchFault (length (w .file)) 1 (length q) (w .keys)) r out out₁
+      → length (w .keys) ≤ length out → answerNumber r ≢ 4
+  strings-enough r out out₁ F h =
+      found-enough (searchFault (length (w .file)) 1 (length q) (w .keys)) r out out₁ F (search-fault (length (w .file)) 1 (length q) (w .keys))
+      (λ xs S. omega (arith, owners-few w q xs S))
 
-  module _ (q offs ids : List ℕ) where
-    pub types-more : (r r′ : Answer) (strings strings₁ out out₁ strings′ strings₁′ out′ out₁′ : List ℕ)
-        → Searched s ks a e q offs ids r strings strings₁ out out₁ → Searched s ks a e q offs ids r′ strings′ strings₁′ out′ out₁′
-        → length strings ≤ length strings′ → length out ≤ length out′ → answerNumber r ≡ 0 → SameList r out₁ r′ out′ out₁′
-    types-more r r′ strings strings₁ out out₁ strings′ strings₁′ out′ out₁′ F G h k =
-        let sf : ℕ = searchFault (length s) 0 (length q) ks in
-        found-more (orShort sf (length strings) (F .strings)) (orShort sf (length strings′) (G .strings)) r r′ out out₁ out′ out₁′
+  module _ (table : GroupWords) where
+    sf : ℕ
+    sf = searchFault (length (w .file)) 0 (length q) (w .keys)
+
+    pub types-more : (r r′ : Answer) (b a b′ a′ : TypeWords) → Searched w q table r b a → Searched w q table r′ b′ a′
+        → length (b .strings) ≤ length (b′ .strings) → length (b .types) ≤ length (b′ .types) → answerNumber r ≡ 0 → SameList r (a .types) r′ (b′ .types) (a′ .types)
+    unfolding sf
+    types-more r r′ b a b′ a′ F G h k =
+        found-more (orShort sf (length (b .strings)) (F .strings)) (orShort sf (length (b′ .strings)) (G .strings)) r r′ (b .types) (a .types) (b′ .types) (a′ .types)
         (F .types) (G .types)
         (λ z.
-        ap (orShort sf (length strings′)) (set-unique (G .strings) (F .strings) (G .owners) (F .owners))
-        ∙ short-more sf sf (length strings) (length strings′) (F .strings) (λ y. y) h z)
+        ap (orShort sf (length (b′ .strings))) (set-unique (G .strings) (F .strings) (G .owners) (F .owners))
+        ∙ short-more sf sf (length (b .strings)) (length (b′ .strings)) (F .strings) (λ y. y) h z)
         k
 
-    pub types-enough : (r : Answer) (strings strings₁ out out₁ : List ℕ) → Searched s ks a e q offs ids r strings strings₁ out out₁
-        → length ks ≤ length strings → length ids ≤ length out → answerNumber r ≢ 4
-    types-enough r strings strings₁ out out₁ F h k =
-        let sf : ℕ = searchFault (length s) 0 (length q) ks in
-        found-enough (orShort sf (length strings) (F .strings)) r out out₁ (F .types)
-        (short-enough sf (length strings) (F .strings) (search-fault (length s) 0 (length q) ks)
-        (omega (arith, owners-few s ks a e q (F .strings) (F .owners))))
-        (λ xs S. omega (arith, types-few s ks a e q offs ids xs S))
+    pub types-enough : (r : Answer) (b a : TypeWords) → Searched w q table r b a → length (w .keys) ≤ length (b .strings) → length (table .ids) ≤ length (b .types)
+        → answerNumber r ≢ 4
+    unfolding sf
+    types-enough r b a F h k =
+        found-enough (orShort sf (length (b .strings)) (F .strings)) r (b .types) (a .types) (F .types)
+        (short-enough sf (length (b .strings)) (F .strings) (search-fault (length (w .file)) 0 (length q) (w .keys))
+        (omega (arith, owners-few w q (F .strings) (F .owners))))
+        (λ xs S. omega (arith, types-few w q table xs S))
 
 -- the words lent to a method search for the strings of the class, its types and, unless the class settles it, the strings of the name
-module _ (f class strings types : ℕ) (cs ts ns : List ℕ) where
-  lent-more : (strings′ types′ : ℕ) → strings ≤ strings′ → types ≤ types′ → lentFault f class strings types cs ts ns ≡ 0
-      → lentFault f class strings′ types′ cs ts ns ≡ 0
+module _ (f class : ℕ) (b : SearchWords) (l : Lists) where
+  lent-more : (b′ : SearchWords) → length (b .strings) ≤ length (b′ .strings) → length (b .types) ≤ length (b′ .types) → lentFault f class b l ≡ 0 → lentFault f class b′ l ≡ 0
   unfolding lentFault
-  lent-more strings′ types′ h k =
-      let by-types = short-more (orShort f strings cs) (orShort f strings′ cs) types types′ ts (short-more f f strings strings′ cs (λ y. y) h) k in
+  lent-more b′ h k =
+      let by-types = short-more (orShort f (length (b .strings)) (l .of-class)) (orShort f (length (b′ .strings)) (l .of-class)) (length (b .types)) (length (b′ .types)) (l .of-types)
+      (short-more f f (length (b .strings)) (length (b′ .strings)) (l .of-class) (λ y. y) h) k in
       ⊎-elim
-      (λ (b : settles class (length ts) ≡ true). rw b by-types)
-      (λ (b : settles class (length ts) ≡ false). rw b (short-more _ _ strings strings′ ns by-types h))
-      (case (settles class (length ts)))
+      (λ (s : settles class (length (l .of-types)) ≡ true). rw s by-types)
+      (λ (s : settles class (length (l .of-types)) ≡ false). rw s (short-more _ _ (length (b .strings)) (length (b′ .strings)) (l .of-name) by-types h))
+      (case (settles class (length (l .of-types))))
 
-  lent-enough : f ≢ 4 → length cs ≤ strings → length ts ≤ types → length ns ≤ strings → lentFault f class strings types cs ts ns ≢ 4
+  lent-enough : f ≢ 4 → length (l .of-class) ≤ length (b .strings) → length (l .of-types) ≤ length (b .types) → length (l .of-name) ≤ length (b .strings) → lentFault f class b l ≢ 4
   unfolding lentFault
-  lent-enough n a b c =
-      let by-types = short-enough (orShort f strings cs) types ts (short-enough f strings cs n a) b in
-      cond-elim (λ (x : ℕ). x ≢ 4) (settles class (length ts)) _ _ (λ _. by-types) (λ _. short-enough _ strings ns by-types c)
+  lent-enough n x y z =
+      let by-types = short-enough (orShort f (length (b .strings)) (l .of-class)) (length (b .types)) (l .of-types) (short-enough f (length (b .strings)) (l .of-class) n x) y in
+      cond-elim (λ (m : ℕ). m ≢ 4) (settles class (length (l .of-types))) _ _ (λ _. by-types) (λ _. short-enough _ (length (b .strings)) (l .of-name) by-types z)
 
-module _ (s : List ℕ) (t : Table) (ks : List ℕ) (a e : ℕ) (class name offs ids : List ℕ) where
-  pub methods-more : (r r′ : Answer) (strings strings₁ types types₁ out out₁ strings′ strings₁′ types′ types₁′ out′ out₁′ : List ℕ)
-      → search.Searched s t ks a e class name offs ids r strings strings₁ types types₁ out out₁
-      → search.Searched s t ks a e class name offs ids r′ strings′ strings₁′ types′ types₁′ out′ out₁′
-      → length strings ≤ length strings′ → length types ≤ length types′ → length out ≤ length out′ → answerNumber r ≡ 0 → SameList r out₁ r′ out′ out₁′
-  methods-more r r′ strings strings₁ types types₁ out out₁ strings′ strings₁′ types′ types₁′ out′ out₁′ F G h k l =
-      let f : ℕ = search.methodFault (length s) t (length class) (length name) ks in
-      found-more (lentFault f (length class) (length strings) (length types) (F .of-class) (F .of-types) (F .of-name))
-      (lentFault f (length class) (length strings′) (length types′) (G .of-class) (G .of-types) (G .of-name)) r r′ out out₁ out′ out₁′
-      (F .found) (G .found)
-      (λ z.
-      rw (
-        set-unique (G .of-class) (F .of-class) (G .class-owners) (F .class-owners),
-        set-unique (G .of-types) (F .of-types) (G .class-types) (F .class-types),
-        set-unique (G .of-name) (F .of-name) (G .name-owners) (F .name-owners),
-      ) (lent-more f (length class) (length strings) (length types) (F .of-class) (F .of-types) (F .of-name) (length strings′) (length types′) h k z))
-      l
+-- two searches for the same have the same lists
+same-lists : (k : search.Asked) {r r′ : Answer} {b a b′ a′ : SearchWords} (F : search.Searched k r b a) (G : search.Searched k r′ b′ a′) → G .lists ≡ F .lists
+same-lists k F G =
+    rw (
+      set-unique (G .lists .of-class) (F .lists .of-class) (G .class-owners) (F .class-owners),
+      set-unique (G .lists .of-types) (F .lists .of-types) (G .class-types) (F .class-types),
+      set-unique (G .lists .of-name) (F .lists .of-name) (G .name-owners) (F .name-owners),
+    )
 
-  pub methods-enough : (r : Answer) (strings strings₁ types types₁ out out₁ : List ℕ)
-      → search.Searched s t ks a e class name offs ids r strings strings₁ types types₁ out out₁
-      → length ks ≤ length strings → length ids ≤ length types → t .size ≤ length out → answerNumber r ≢ 4
-  methods-enough r strings strings₁ types types₁ out out₁ F h k l =
-      let f : ℕ = search.methodFault (length s) t (length class) (length name) ks in
-      found-enough (lentFault f (length class) (length strings) (length types) (F .of-class) (F .of-types) (F .of-name)) r out out₁ (F .found)
-      (lent-enough f (length class) (length strings) (length types) (F .of-class) (F .of-types) (F .of-name)
-      (method-fault (length s) t (length class) (length name) ks)
-      (omega (arith, owners-few s ks a e class (F .of-class) (F .class-owners)))
-      (omega (arith, types-few s ks a e class offs ids (F .of-types) (F .class-types)))
-      (omega (arith, owners-few s ks a e name (F .of-name) (F .name-owners))))
-      (λ xs S. omega (arith, set-below (t .size) (λ x m. m .below) S))
+module _ (k : search.Asked) where
+  pub methods-more : (r r′ : Answer) (b a b′ a′ : SearchWords) → search.Searched k r b a → search.Searched k r′ b′ a′
+      → length (b .strings) ≤ length (b′ .strings) → length (b .types) ≤ length (b′ .types) → length (b .methods) ≤ length (b′ .methods)
+      → answerNumber r ≡ 0 → SameList r (a .methods) r′ (b′ .methods) (a′ .methods)
+  methods-more r r′ b a b′ a′ F G h m n =
+      let f : ℕ = search.askedFault k in
+      let c : ℕ = length (k .query .class) in
+      found-more (lentFault f c b (F .lists)) (lentFault f c b′ (G .lists)) r r′ (b .methods) (a .methods) (b′ .methods) (a′ .methods) (F .found) (G .found)
+      (λ z. ap (lentFault f c b′) (same-lists k F G) ∙ lent-more f c b (F .lists) b′ h m z) n
+
+  pub methods-enough : (r : Answer) (b a : SearchWords) → search.Searched k r b a
+      → length (k .area .keys) ≤ length (b .strings) → length (k .types .ids) ≤ length (b .types) → k .methods .size ≤ length (b .methods) → answerNumber r ≢ 4
+  methods-enough r b a F h m n =
+      let f : ℕ = search.askedFault k in
+      let c : ℕ = length (k .query .class) in
+      found-enough (lentFault f c b (F .lists)) r (b .methods) (a .methods) (F .found)
+      (lent-enough f c b (F .lists) (method-fault (length (k .area .file)) (k .methods) c (length (k .query .name)) (k .area .keys))
+      (omega (arith, owners-few (k .area) (k .query .class) (F .lists .of-class) (F .class-owners)))
+      (omega (arith, types-few (k .area) (k .query .class) (k .types) (F .lists .of-types) (F .class-types)))
+      (omega (arith, owners-few (k .area) (k .query .name) (F .lists .of-name) (F .name-owners))))
+      (λ xs S. omega (arith, set-below (k .methods .size) (λ x g. g .below) S))
 
 pub names-enough : (s q given : List ℕ) (r : Answer) (out out₁ : List ℕ) → Found (Named s (le32 s 0x3c) q given) (filterFault s q given) r out out₁
     → length given ≤ length out → answerNumber r ≢ 4

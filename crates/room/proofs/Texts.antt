@@ -11,10 +11,10 @@ use lib.Dec.{ltb, eqb}
 use borrow.Author.Tests.{eqb-true, eqb-false, eq-eqb}
 use Rattle.words.proofs.Shared.{case}
 use Rattle.refusal.specs.Outcomes.{Outcome, refused}
-use Rattle.insn_locator.specs.Listing.{listOut}
-use Rattle.listing_text.specs.Text.{entryOut}
-use Rattle.listing_text.proofs.Room.{entry-room}
-use Rattle.entry_lines.specs.Line.{lineBy, lineOut, alike, lineAt, firstRefused, triedOut}
+use Rattle.slot_listing.specs.Listing.{listOut}
+use Rattle.refs_program.specs.Text.{entryOut}
+use Rattle.refs_program.proofs.TextRoom.{entry-room}
+use Rattle.refs_program.specs.Line.{Entries, lineBy, lineOut, alike, lineAt, firstRefused, triedOut}
 use Rattle.room.proofs.Branches.{same-then}
 use Rattle.room.proofs.Located.{list-more}
 
@@ -33,30 +33,30 @@ module _ (words bytes words′ bytes′ : ℕ) (a : words ≤ words′) (b : byt
   line-more off idx slot shares =
       by-more off idx (listOut shares slot words) (listOut shares slot words′) (list-more shares slot words words′ a)
 
-  module _ (offs marks answers shares : List ℕ) where
-    pub entry-more : (i : ℕ) → lineAt offs marks answers shares words bytes i .number ≡ 0
-        → lineAt offs marks answers shares words′ bytes′ i ≡ lineAt offs marks answers shares words bytes i
+  module _ (E : Entries) where
+    pub entry-more : (i : ℕ) → lineAt E words bytes i .number ≡ 0
+        → lineAt E words′ bytes′ i ≡ lineAt E words bytes i
     unfolding lineAt
     entry-more i =
-        same-then (λ (o : Outcome). o .number) (alike offs marks answers && ltb i (length offs)) _ _ (refused 15)
-        (line-more (getD offs i 0) (getD marks i 0) (getD answers i 0) shares)
+        same-then (λ (o : Outcome). o .number) (alike (E .offs) (E .marks) (E .answers) && ltb i (length (E .offs))) _ _ (refused 15)
+        (line-more (getD (E .offs) i 0) (getD (E .marks) i 0) (getD (E .answers) i 0) (E .shares))
 
-    first-more : (k i : ℕ) → firstRefused (lineAt offs marks answers shares words bytes) k i ≡ 0
-        → firstRefused (lineAt offs marks answers shares words′ bytes′) k i ≡ 0
+    first-more : (k i : ℕ) → firstRefused (lineAt E words bytes) k i ≡ 0
+        → firstRefused (lineAt E words′ bytes′) k i ≡ 0
     unfolding firstRefused
     first-more zero i = λ e. refl
     first-more (suc k) i =
         ⊎-elim
-        (λ (t : eqb (lineAt offs marks answers shares words bytes i .number) 0 ≡ true) e.
-        let z : lineAt offs marks answers shares words bytes i .number ≡ 0 = eqb-true _ 0 t in
+        (λ (t : eqb (lineAt E words bytes i .number) 0 ≡ true) e.
+        let z : lineAt E words bytes i .number ≡ 0 = eqb-true _ 0 t in
         rw (entry-more i z) (rw t (first-more k (i + 1) (rw t at e))))
-        (λ (t : eqb (lineAt offs marks answers shares words bytes i .number) 0 ≡ false) e. absurd (eqb-false _ 0 t (rw t at e)))
-        (case (eqb (lineAt offs marks answers shares words bytes i .number) 0))
+        (λ (t : eqb (lineAt E words bytes i .number) 0 ≡ false) e. absurd (eqb-false _ 0 t (rw t at e)))
+        (case (eqb (lineAt E words bytes i .number) 0))
 
-    pub entries-more : triedOut offs marks answers shares words bytes ≡ 0 → triedOut offs marks answers shares words′ bytes′ ≡ 0
+    pub entries-more : triedOut E words bytes ≡ 0 → triedOut E words′ bytes′ ≡ 0
     unfolding triedOut
     entries-more =
         ⊎-elim
-        (λ (t : alike offs marks answers ≡ true) e. rw t (first-more (length offs) 0 (rw t at e)))
-        (λ (t : alike offs marks answers ≡ false) e. absurd (let z : _≡_ {A = ℕ} 15 0 = rw t at e in omega arith))
-        (case (alike offs marks answers))
+        (λ (t : alike (E .offs) (E .marks) (E .answers) ≡ true) e. rw t (first-more (length (E .offs)) 0 (rw t at e)))
+        (λ (t : alike (E .offs) (E .marks) (E .answers) ≡ false) e. absurd (let z : _≡_ {A = ℕ} 15 0 = rw t at e in omega arith))
+        (case (alike (E .offs) (E .marks) (E .answers)))

@@ -2,13 +2,10 @@
 -- record, or from what else is handed over. That they suffice, and longer slices too, is stated in Laws.antt.
 -- Assumes nothing.
 use Prim.Native.Nat.{ℕ, _+_, _*_, _/_}
-use mathlib.Core.Bool.{cond}
 use mathlib.Core.List.{List}
 use lib.ListN.{length}
-use lib.Dec.{eqb}
 use Rattle.tinydex.specs.declared.DexHeader.{DexHeader}
 use Rattle.code_table.specs.Build.{Room}
-use Rattle.findrefs.specs.Find.{Lengths}
 
 -- ---- for any file
 
@@ -62,10 +59,7 @@ slotWords n = n / 16
 abbrev pub codeWords : ℕ → ℕ
 codeWords codes = 3 * codes
 
--- scan for a kind, in a file of n bytes: the offsets, and the indices beside them. Strings, kind 1, are tried at every start, and the other
--- kinds at every second
-abbrev pub hitWords : ℕ → ℕ → ℕ
-hitWords kind n = cond (eqb kind 1) n ((n + 1) / 2)
+-- scan for a kind, in a file of n bytes: the offsets, and the indices beside them, `mostEntries kind n` of crate completeness
 
 -- locate: an answer for each entry, and a further word for each start word
 abbrev pub answerWords : List ℕ → ℕ
@@ -84,19 +78,9 @@ requestWords = 16
 
 -- ---- for a file as demand 3 supposes: no method has code twice, so no more codes are found than there are methods
 
--- code table, in a file of n bytes
+-- code table, in a file of n bytes. What suffices for the finder is `Enough` of crate completeness
 abbrev pub buildRoom : ℕ → DexHeader → Room
 buildRoom n h = record { starts = startWords h; triples = codeWords (h .methods .size); slots = slotWords n; shares = codeWords (h .methods .size) }
-
--- the finder, asked for a kind
-abbrev pub findRoom : ℕ → ℕ → DexHeader → Lengths
-findRoom kind n h = record {
-  build = buildRoom n h;
-  offs = hitWords kind n;
-  marks = hitWords kind n;
-  further = h .methods .size;
-  answers = hitWords kind n;
-}
 
 -- listing a confirmed entry's slot
 abbrev pub slotMethods : DexHeader → ℕ

@@ -4,55 +4,62 @@
 use Prim.Native.Nat.{ℕ, _^_, _≤_, _<_}
 use mathlib.Core.Path.{_≡_}
 use mathlib.Core.Logic.{_≢_}
-use mathlib.Core.List.{List}
+use mathlib.Core.List.{List, List·Memᴰ}
 use lib.ListN.{length, getD, take}
 use Rattle.words.specs.Padded.{padded}
 use Rattle.refusal.specs.Refusals.{answerNumber, answerCount}
 use Rattle.refusal.specs.declared.Answer.{Answer}
 use Rattle.refusal.specs.declared.Refusal.{Refusal}
 use Rattle.dalvik.specs.Numbers.{le32}
-use Rattle.dalvik.specs.Ids.{typeIdSize, type-descriptor-idx}
 use Rattle.dalvik.specs.CodeItem.{Code}
-use Rattle.dalvik.specs.Instructions.{Kind}
 use Rattle.tinydex.specs.declared.DexHeader.{DexHeader}
 use Rattle.tinydex.specs.declared.Table.{Table}
 use Rattle.groups.specs.Built as groups
+use Rattle.groups.specs.Built.{GroupWords}
+use Rattle.type_locator.specs.Built as type-groups
 use Rattle.method_locator.specs.Built as methods
+use Rattle.method_locator.specs.Built.{MethodWords}
 use Rattle.string_locator.specs.Map.{mapOutcome}
-use Rattle.rising.specs.Found.{Found}
-use Rattle.string_search.specs.Search.{Owns, searchFault}
+use Rattle.word_set.specs.Found.{Found}
+use Rattle.string_search.specs.Search.{Area, Owns, searchFault}
 use Rattle.type_search.specs.Types as types
+use Rattle.type_search.specs.Types.{TypeWords}
 use Rattle.method_search.specs.Methods as search
-use Rattle.name_faults.specs.Faults.{filterFault}
+use Rattle.method_search.specs.Methods.{Query, Asked, searchFor, SearchWords}
+use Rattle.name_filter.specs.Faults.{filterFault}
 use Rattle.name_filter.specs.Names.{Named}
 use Rattle.class_data.specs.Walk.{Walk}
 use Rattle.class_data.specs.Walk.Walk.{refused, found}
 use Rattle.class_data.specs.Codes.{codesOf}
 use Rattle.code_table.specs.Build.{Room, buildOut}
-use Rattle.index_width.specs.Kinds.{kindNumber}
-use Rattle.code_item_scan.specs.Scan.{scanOut}
+use Rattle.code_item_scan.specs.Scan.{Asked as ScanAsked, HitRoom, scanOut}
 use Rattle.insn_locator.specs.Locate.{Tables, locateOut}
-use Rattle.insn_locator.specs.Listing.{listOut}
+use Rattle.slot_listing.specs.Listing.{listOut}
 use Rattle.request.specs.Request.{requestOf}
-use Rattle.listing_text.specs.Text.{headOut, entryOut, refusalOut}
-use Rattle.entry_lines.specs.Line.{lineAt, triedOut}
-use Rattle.demand.specs.Supposed.{Supposed}
-use Rattle.demand.specs.Statement.{Suffices}
-use Rattle.findrefs.specs.Find.{Lengths, Find, findOut}
-use Rattle.findrefs.specs.Promise.{lentOf}
-use Rattle.room.specs.Enough.{typeOffsets, typeIds, classOffsets, classIds, nameOffsets, nameIds, mapKeys, stringsFound, typesFound, methodsFound, namesKept, startWords, slotWords, codeWords, hitWords, answerWords, furtherWords, listedWords, requestWords, buildRoom, findRoom, slotMethods}
+use Rattle.refs_program.specs.Text.{headOut, entryOut, refusalOut}
+use Rattle.refs_program.specs.Line.{Entries, lineAt, triedOut}
+use Rattle.completeness.specs.Completeness.{Supposed, FindWords, mostEntries, Enough, sharing}
+use Rattle.findrefs.specs.Find.{Lengths, lengthsOf, findOut}
+use Rattle.room.specs.Enough.{typeOffsets, typeIds, classOffsets, classIds, nameOffsets, nameIds, mapKeys, stringsFound, typesFound, methodsFound, namesKept, startWords, slotWords, codeWords, answerWords, furtherWords, listedWords, requestWords, buildRoom, slotMethods}
 
 -- ---- slices that are each at least as long
+pub record LongerGroups (a b : GroupWords) : Type 0 where
+  pub offs : length (a .offs) ≤ length (b .offs)
+  pub ids : length (a .ids) ≤ length (b .ids)
+
 pub record Longer (a b : Room) : Type 0 where
   pub starts : a .starts ≤ b .starts
   pub triples : a .triples ≤ b .triples
   pub slots : a .slots ≤ b .slots
   pub shares : a .shares ≤ b .shares
 
-pub record LongerAll (a b : Lengths) : Type 0 where
-  pub build : Longer (a .build) (b .build)
+pub record LongerHits (a b : HitRoom) : Type 0 where
   pub offs : a .offs ≤ b .offs
   pub marks : a .marks ≤ b .marks
+
+pub record LongerAll (a b : Lengths) : Type 0 where
+  pub build : Longer (a .build) (b .build)
+  pub hits : LongerHits (a .hits) (b .hits)
   pub further : a .further ≤ b .further
   pub answers : a .answers ≤ b .answers
 
@@ -64,37 +71,33 @@ pub record SameList (r : Answer) (after : List ℕ) (r′ : Answer) (before′ a
 
 -- ---- more room never refuses: what succeeds comes to the same with slices that are each at least as long
 pub record MoreRoom : Type 0 where
-  pub groups : (len : ℕ) (key : ℕ → ℕ) (t : Table) (size pool l m l′ m′ : ℕ) → l ≤ l′ → m ≤ m′
-      → groups.outcome len key t size pool l m .number ≡ 0
-      → groups.outcome len key t size pool l′ m′ ≡ groups.outcome len key t size pool l m
-  pub method-groups : (s : List ℕ) (h : DexHeader) (co cm fo fm co′ cm′ fo′ fm′ : ℕ) → co ≤ co′ → cm ≤ cm′ → fo ≤ fo′ → fm ≤ fm′
-      → methods.outcome s h co cm fo fm .number ≡ 0
-      → methods.outcome s h co′ cm′ fo′ fm′ ≡ methods.outcome s h co cm fo fm
+  pub groups : (len : ℕ) (t : Table) (size : ℕ) (g before before′ : GroupWords) → LongerGroups before before′
+      → groups.outcome len t size g before .number ≡ 0 → groups.outcome len t size g before′ ≡ groups.outcome len t size g before
+  pub method-groups : (s : List ℕ) (h : DexHeader) (before before′ : MethodWords)
+      → LongerGroups (before .clz) (before′ .clz) → LongerGroups (before .name) (before′ .name)
+      → methods.outcome s h before .number ≡ 0 → methods.outcome s h before′ ≡ methods.outcome s h before
   pub string-map : (s : List ℕ) (table n lent lent′ : ℕ) → lent ≤ lent′ → mapOutcome s table n lent .number ≡ 0
       → mapOutcome s table n lent′ ≡ mapOutcome s table n lent
-  pub string-search : (s ks : List ℕ) (a e : ℕ) (q : List ℕ) (r r′ : Answer) (out out₁ out′ out₁′ : List ℕ)
-      → Found (Owns s ks a e q) (searchFault (length s) 1 (length q) ks) r out out₁
-      → Found (Owns s ks a e q) (searchFault (length s) 1 (length q) ks) r′ out′ out₁′
+  pub string-search : (w : Area) (q : List ℕ) (r r′ : Answer) (out out₁ out′ out₁′ : List ℕ)
+      → Found (Owns w q) (searchFault (length (w .file)) 1 (length q) (w .keys)) r out out₁
+      → Found (Owns w q) (searchFault (length (w .file)) 1 (length q) (w .keys)) r′ out′ out₁′
       → length out ≤ length out′ → answerNumber r ≡ 0 → SameList r out₁ r′ out′ out₁′
-  pub type-search : (s ks : List ℕ) (a e : ℕ) (q offs ids : List ℕ) (r r′ : Answer) (strings strings₁ out out₁ strings′ strings₁′ out′ out₁′ : List ℕ)
-      → types.Searched s ks a e q offs ids r strings strings₁ out out₁
-      → types.Searched s ks a e q offs ids r′ strings′ strings₁′ out′ out₁′
-      → length strings ≤ length strings′ → length out ≤ length out′ → answerNumber r ≡ 0 → SameList r out₁ r′ out′ out₁′
-  pub method-search : (s : List ℕ) (t : Table) (ks : List ℕ) (a e : ℕ) (class name offs ids : List ℕ) (r r′ : Answer)
-      (strings strings₁ types types₁ out out₁ strings′ strings₁′ types′ types₁′ out′ out₁′ : List ℕ)
-      → search.Searched s t ks a e class name offs ids r strings strings₁ types types₁ out out₁
-      → search.Searched s t ks a e class name offs ids r′ strings′ strings₁′ types′ types₁′ out′ out₁′
-      → length strings ≤ length strings′ → length types ≤ length types′ → length out ≤ length out′ → answerNumber r ≡ 0
-      → SameList r out₁ r′ out′ out₁′
+  pub type-search : (w : Area) (q : List ℕ) (table : GroupWords) (r r′ : Answer) (before after before′ after′ : TypeWords)
+      → types.Searched w q table r before after → types.Searched w q table r′ before′ after′
+      → length (before .strings) ≤ length (before′ .strings) → length (before .types) ≤ length (before′ .types) → answerNumber r ≡ 0
+      → SameList r (after .types) r′ (before′ .types) (after′ .types)
+  pub method-search : (k : Asked) (r r′ : Answer) (before after before′ after′ : SearchWords)
+      → search.Searched k r before after → search.Searched k r′ before′ after′
+      → length (before .strings) ≤ length (before′ .strings) → length (before .types) ≤ length (before′ .types)
+      → length (before .methods) ≤ length (before′ .methods) → answerNumber r ≡ 0
+      → SameList r (after .methods) r′ (before′ .methods) (after′ .methods)
   pub name-filter : (s q given : List ℕ) (r r′ : Answer) (out out₁ out′ out₁′ : List ℕ)
       → Found (Named s (le32 s 0x3c) q given) (filterFault s q given) r out out₁
       → Found (Named s (le32 s 0x3c) q given) (filterFault s q given) r′ out′ out₁′
       → length out ≤ length out′ → answerNumber r ≡ 0 → SameList r out₁ r′ out′ out₁′
   pub code-table : (s : List ℕ) (h : DexHeader) (room room′ : Room) → Longer room room′ → buildOut s h room .number ≡ 0
       → buildOut s h room′ ≡ buildOut s h room
-  pub scan : (s : List ℕ) (kind : ℕ) (wanted : List ℕ) (from to offs marks offs′ marks′ : ℕ) → offs ≤ offs′ → marks ≤ marks′
-      → scanOut s kind wanted from to offs marks .number ≡ 0
-      → scanOut s kind wanted from to offs′ marks′ ≡ scanOut s kind wanted from to offs marks
+  pub scan : (s : List ℕ) (A : ScanAsked) (room room′ : HitRoom) → LongerHits room room′ → scanOut s A room .number ≡ 0 → scanOut s A room′ ≡ scanOut s A room
   pub locate : (s : List ℕ) (T : Tables) (entries : List ℕ) (answers further answers′ further′ : ℕ) → answers ≤ answers′ → further ≤ further′
       → locateOut s T entries answers further .number ≡ 0
       → locateOut s T entries answers′ further′ ≡ locateOut s T entries answers further
@@ -108,11 +111,9 @@ pub record MoreRoom : Type 0 where
   pub entry-text : (off idx : ℕ) (mids : List ℕ) (bytes bytes′ : ℕ) → bytes ≤ bytes′ → entryOut off idx mids bytes .number ≡ 0
       → entryOut off idx mids bytes′ ≡ entryOut off idx mids bytes
   pub refusal-text : (why : Refusal) (bytes bytes′ : ℕ) → bytes ≤ bytes′ → refusalOut why bytes .number ≡ 0 → refusalOut why bytes′ ≡ refusalOut why bytes
-  pub line : (offs marks answers shares : List ℕ) (words bytes words′ bytes′ i : ℕ) → words ≤ words′ → bytes ≤ bytes′
-      → lineAt offs marks answers shares words bytes i .number ≡ 0
-      → lineAt offs marks answers shares words′ bytes′ i ≡ lineAt offs marks answers shares words bytes i
-  pub lines : (offs marks answers shares : List ℕ) (words bytes words′ bytes′ : ℕ) → words ≤ words′ → bytes ≤ bytes′
-      → triedOut offs marks answers shares words bytes ≡ 0 → triedOut offs marks answers shares words′ bytes′ ≡ 0
+  pub line : (E : Entries) (words bytes words′ bytes′ i : ℕ) → words ≤ words′ → bytes ≤ bytes′ → lineAt E words bytes i .number ≡ 0
+      → lineAt E words′ bytes′ i ≡ lineAt E words bytes i
+  pub lines : (E : Entries) (words bytes words′ bytes′ : ℕ) → words ≤ words′ → bytes ≤ bytes′ → triedOut E words bytes ≡ 0 → triedOut E words′ bytes′ ≡ 0
 
 -- ---- what suffices
 
@@ -123,21 +124,21 @@ codesFound (found cs e) = length cs
 
 -- for any file, record and query
 pub record NoFour : Type 0 where
-  pub type-groups : (s : List ℕ) (h : DexHeader) (offs ids : ℕ) → typeOffsets h ≤ offs → typeIds h ≤ ids
-      → groups.outcome (length s) (type-descriptor-idx s (h .types .off)) (h .types) typeIdSize (h .strings .size) offs ids .number ≢ 4
-  pub method-groups : (s : List ℕ) (h : DexHeader) (co cm fo fm : ℕ) → classOffsets h ≤ co → classIds h ≤ cm → nameOffsets h ≤ fo → nameIds h ≤ fm
-      → methods.outcome s h co cm fo fm .number ≢ 4
+  pub type-groups : (s : List ℕ) (h : DexHeader) (before : GroupWords) → typeOffsets h ≤ length (before .offs) → typeIds h ≤ length (before .ids)
+      → type-groups.outcome s h before .number ≢ 4
+  pub method-groups : (s : List ℕ) (h : DexHeader) (before : MethodWords)
+      → classOffsets h ≤ length (before .clz .offs) → classIds h ≤ length (before .clz .ids)
+      → nameOffsets h ≤ length (before .name .offs) → nameIds h ≤ length (before .name .ids) → methods.outcome s h before .number ≢ 4
   pub string-map : (s : List ℕ) (h : DexHeader) (keys : ℕ) → mapKeys h ≤ keys → mapOutcome s (h .strings .off) (h .strings .size) keys .number ≢ 4
-  pub string-search : (s ks : List ℕ) (a e : ℕ) (q : List ℕ) (r : Answer) (out out₁ : List ℕ)
-      → Found (Owns s ks a e q) (searchFault (length s) 1 (length q) ks) r out out₁
-      → stringsFound ks ≤ length out → answerNumber r ≢ 4
-  pub type-search : (s ks : List ℕ) (a e : ℕ) (q offs ids : List ℕ) (r : Answer) (strings strings₁ out out₁ : List ℕ)
-      → types.Searched s ks a e q offs ids r strings strings₁ out out₁
-      → stringsFound ks ≤ length strings → typesFound ids ≤ length out → answerNumber r ≢ 4
-  pub method-search : (s : List ℕ) (h : DexHeader) (ks : List ℕ) (a e : ℕ) (class name offs ids : List ℕ) (r : Answer)
-      (strings strings₁ types types₁ out out₁ : List ℕ)
-      → search.Searched s (h .methods) ks a e class name offs ids r strings strings₁ types types₁ out out₁
-      → stringsFound ks ≤ length strings → typesFound ids ≤ length types → methodsFound h ≤ length out → answerNumber r ≢ 4
+  pub string-search : (w : Area) (q : List ℕ) (r : Answer) (out out₁ : List ℕ)
+      → Found (Owns w q) (searchFault (length (w .file)) 1 (length q) (w .keys)) r out out₁
+      → stringsFound (w .keys) ≤ length out → answerNumber r ≢ 4
+  pub type-search : (w : Area) (q : List ℕ) (table : GroupWords) (r : Answer) (before after : TypeWords) → types.Searched w q table r before after
+      → stringsFound (w .keys) ≤ length (before .strings) → typesFound (table .ids) ≤ length (before .types) → answerNumber r ≢ 4
+  pub method-search : (w : Area) (q : Query) (table : GroupWords) (h : DexHeader) (r : Answer) (before after : SearchWords)
+      → search.Searched (searchFor w q table (h .methods)) r before after
+      → stringsFound (w .keys) ≤ length (before .strings) → typesFound (table .ids) ≤ length (before .types)
+      → methodsFound h ≤ length (before .methods) → answerNumber r ≢ 4
   pub name-filter : (s q given : List ℕ) (r : Answer) (out out₁ : List ℕ)
       → Found (Named s (le32 s 0x3c) q given) (filterFault s q given) r out out₁
       → namesKept given ≤ length out → answerNumber r ≢ 4
@@ -145,30 +146,21 @@ pub record NoFour : Type 0 where
   pub code-table : (s : List ℕ) (h : DexHeader) (room : Room) → startWords h ≤ room .starts → slotWords (length s) ≤ room .slots
       → codeWords (codesFound (codesOf s h)) ≤ room .triples → codeWords (codesFound (codesOf s h)) ≤ room .shares → codesFound (codesOf s h) ≤ 2 ^ 31
       → buildOut s h room .number ≢ 4
-  pub scan : (s : List ℕ) (kind : ℕ) (wanted : List ℕ) (from to offs marks : ℕ) → hitWords kind (length s) ≤ offs → hitWords kind (length s) ≤ marks
-      → scanOut s kind wanted from to offs marks .number ≢ 4
+  pub scan : (s : List ℕ) (A : ScanAsked) (room : HitRoom) → mostEntries (A .kind) (length s) ≤ room .offs → mostEntries (A .kind) (length s) ≤ room .marks
+      → scanOut s A room .number ≢ 4
   pub locate : (s : List ℕ) (T : Tables) (entries : List ℕ) (answers further : ℕ) → answerWords entries ≤ answers → furtherWords (T .starts) ≤ further
       → locateOut s T entries answers further .number ≢ 4
   pub listing : (shares : List ℕ) (slot room : ℕ) → listedWords shares ≤ room → listOut shares slot room .number ≢ 4
   pub request : (text : List ℕ) (words : ℕ) → requestWords ≤ words → requestOf text words .number ≢ 4
 
--- each answer other than 0 of the finder's outcome is listed from its shares, in so many words of shares and so many for the list
-abbrev pub ListsConfirmed : ℕ → ℕ → Find → Type 0
-ListsConfirmed shares list F =
-    (k : ℕ) → k < length (F .answers) → getD (F .answers) k 0 ≢ 0 → listOut (padded shares (F .build .shares)) (getD (F .answers) k 0) list .number ≡ 0
-
 -- for a file as demand 3 supposes, and its codes
 pub record NoFourSupposed (s : List ℕ) (h : DexHeader) (codes : List Code) : Type 0 where
   pub code-table : (room : Room) → Longer (buildRoom (length s) h) room → buildOut s h room .number ≡ 0
-  pub finder : (kind : ℕ) (wanted : List ℕ) (L : Lengths) → LongerAll (findRoom kind (length s) h) L → findOut s h kind wanted L .number ≢ 4
-  pub finder-succeeds : (kind : Kind) (wanted : List ℕ) (L : Lengths) → LongerAll (findRoom (kindNumber kind) (length s) h) L
-      → findOut s h (kindNumber kind) wanted L .number ≡ 0
-  -- the listing of each entry that the finder confirms
-  pub listing : (kind : Kind) (wanted : List ℕ) (L : Lengths) (list : ℕ) → LongerAll (findRoom (kindNumber kind) (length s) h) L → slotMethods h ≤ list
-      → ListsConfirmed (L .build .shares) list (findOut s h (kindNumber kind) wanted L)
-  -- these are "lent buffers that suffice", as demand 3 and the finder's promise have it
-  pub suffices : (kind : Kind) (wanted : List ℕ) (L : Lengths) (list : ℕ) → LongerAll (findRoom (kindNumber kind) (length s) h) L → slotMethods h ≤ list
-      → Suffices s (h .methods .size) codes kind wanted (lentOf (h .methods .size) L list)
+  -- for any number of a kind; that it then succeeds for the four kinds is the finder's own promise
+  pub finder : (kind : ℕ) (wanted : List ℕ) (w : FindWords) → Enough (length s) (h .methods .size) kind w
+      → findOut s h kind wanted (lengthsOf w) .number ≢ 4
+  -- room for the listing of each entry that the finder confirms
+  pub listing : (c : Code) → List·Memᴰ c codes → length (sharing codes (c .off)) ≤ slotMethods h
 
 abbrev pub EnoughSupposed : Type 0
 EnoughSupposed =

@@ -1,12 +1,17 @@
 // Runs the library's operations on `sample.dex`, and writes what they find, a section for each.
 
+mod code_section;
+mod group_sections;
+mod search_sections;
+mod text;
+
 fn sections(file: &[u8]) {
-    let header = sample_text::header(file);
-    sample_groups::types(file, header);
-    sample_groups::methods(file, header);
-    sample_search::strings(file, header);
-    sample_search::group_searches(file, header);
-    sample_code::code(file, header);
+    let header = text::header(file);
+    group_sections::types(file, header);
+    group_sections::methods(file, header);
+    search_sections::strings(file, header);
+    search_sections::group_searches(file, header);
+    code_section::code(file, header);
 }
 
 fn main() {

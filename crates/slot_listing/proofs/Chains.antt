@@ -10,10 +10,10 @@ use native.Mathlib.Omega.{arith}
 use lib.ListN.{length, getD, length-append}
 use borrow.Author.Tests.{lt-ltb, le-ltb, le-leb, lt-leb, eq-eqb, ne-eqb}
 use Rattle.code_table.specs.Slots.{shareAt}
-use Rattle.insn_locator.specs.Listing.{snocTo, chain}
+use Rattle.slot_listing.specs.Listing.{snocTo, chain}
 use Rattle.slot_listing.specs.declared.Chain.{Chain}
 use Rattle.slot_listing.specs.declared.Chain.the-variants.{Count, Broken}
-use Rattle.slot_listing.specs.Chains.{methodsOf, countOf, listBy}
+use Rattle.slot_listing.specs.Steps.{methodsOf, countOf, listBy}
 
 -- ---- the three words of a share, at the places where the code reads them
 

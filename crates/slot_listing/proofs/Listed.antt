@@ -9,8 +9,8 @@ use lib.ListN.{length}
 use borrow.Author.Tests.{lt-ltb, le-ltb, le-leb, lt-leb, eq-eqb, ne-eqb}
 use Rattle.refusal.specs.Outcomes.{refused, success}
 use Rattle.code_table.specs.Slots.{shared}
-use Rattle.insn_locator.specs.Listing.{listed, listOut}
-use Rattle.slot_listing.specs.Chains.{methodsOf}
+use Rattle.slot_listing.specs.Listing.{listed, listOut}
+use Rattle.slot_listing.specs.Steps.{methodsOf}
 
 module _ (ws : List ℕ) (v : ℕ) where
   pub listed-free : v ≡ 0 → listed ws v ≡ some []

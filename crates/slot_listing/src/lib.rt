@@ -4,8 +4,8 @@ ghost use Prim.Native.Nat.{_≤_};
 ghost use mathlib.Core.List.{_++_};
 ghost use lib.ListN.{length, drop};
 ghost use Rattle.refusal.specs.Outcomes.{Gives};
-ghost use Rattle.insn_locator.specs.Listing.{listOut};
-ghost use Rattle.slot_listing.specs.Chains.{methodsOf, countOf, listBy};
+ghost use Rattle.slot_listing.specs.Listing.{listOut};
+ghost use Rattle.slot_listing.specs.Steps.{methodsOf, countOf, listBy};
 ghost use Rattle.slot_listing.specs.declared.Chain.the-variants.{Count};
 
 // How many methods a share has, where it and its earlier shares are as they must be.
@@ -54,20 +54,22 @@ fn fill_chain(shares: &[u32], k: u32, n: usize, methods: &mut [u32])
 
 // The methods of a slot word: none for a free slot.
 pub fn list_slot(shares: &[u32], slot: u32, methods: &mut [u32]) -> refusal::Answer
-    ensures { λ r. ⌜ Gives (listOut (now (shares .entry)) slot (length (now (methods .entry)))) r (now (methods .entry)) (now (methods .exit)) ⌝ }
+    ensures gives { λ r.
+        let before = now (methods .entry) in
+        ⌜ Gives (listOut (now (shares .entry)) slot (length before)) r before (now (methods .exit)) ⌝ }
 {
     words::clear(methods);
     if slot == 0 {
         return refusal::Answer::Done(0);
     }
-    if slot < 2147483648 {
+    if slot < code_table::SHARED {
         if methods.len() == 0 {
             return refusal::Answer::Refused(refusal::Refusal::LentTooShort);
         }
         methods[0] = slot - 1;
         return refusal::Answer::Done(1);
     }
-    let k = slot - 2147483648;
+    let k = slot - code_table::SHARED;
     let Chain::Count(n) = chain_count(shares, k) else {
         return refusal::Answer::Refused(refusal::Refusal::LentTable);
     };

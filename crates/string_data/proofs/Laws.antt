@@ -157,7 +157,7 @@ module _ (s : List ℕ) (i : ℕ) where
   unfolding stringText
   small-enough e f p = rw e p
 
--- a text that is found, and the zero behind it, are inside the file
+-- a text that is found, and the zero after it, are inside the file
 Inside : List ℕ → Found → Type 0
 Inside s f = f .number ≡ 0 → f .start + f .len < length s
 

@@ -1,5 +1,5 @@
--- What the bytes of one string are, as document 01 says under string_locator.rs and "String bytes": length bytes up to the first
--- below 128, at most five and the fifth at most 0x0f, and behind them the text, up to the first zero byte. On a published
+-- What the bytes of one string are (SPEC, String bytes): length bytes up to the first
+-- below 128, at most five and the fifth at most 0x0f, and after them the text, up to the first zero byte. On a published
 -- string_data_item that is its text: proofs/Published.antt.
 -- Assumes nothing.
 use Prim.Native.Nat.{ℕ, zero, suc, _+_}
@@ -32,7 +32,7 @@ abbrev pub onZero {ℓ} : {A : Type ℓ} → Zero → A → (ℕ → A) → A
 onZero (z.Behind n) a g = g n
 onZero z.Nothing a g = a
 
--- document 01's number, 0 for success; where the text starts, and how many bytes it has
+-- the refusal's number, 0 for success; where the text starts, and how many bytes it has
 pub record Found : Type 0 where
   pub number : ℕ
   pub start : ℕ
@@ -53,12 +53,12 @@ says (t.Refused r) = none (refusalNumber r)
 unfoldable pub textFrom : List ℕ → ℕ → Found
 textFrom s i = onZero (firstZero s i) (none 5) (found i)
 
--- with no byte left behind it a length byte is the fifth
+-- with no byte left after it a length byte is the fifth
 abbrev pub isLast : ℕ → Bool
 isLast zero = true
 isLast (suc k) = false
 
--- the text behind the length bytes at i, of which k may come; 6: one is not inside the file; 10: the fifth is above 0x0f
+-- the text after the length bytes at i, of which k may come; 6: one is not inside the file; 10: the fifth is above 0x0f
 unfoldable pub behindLength : ℕ → List ℕ → ℕ → Found
 behindLength zero s i = none 10
 behindLength (suc k) s i =

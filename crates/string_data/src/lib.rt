@@ -16,7 +16,7 @@ pub enum StringText {
     Refused(Refusal),
 }
 
-// The first zero byte at or behind a place.
+// The first zero byte at or after a place.
 pub fn first_zero(file: &[u8], from: usize) -> Zero
     ensures { λ r. ⌜ r ≡ firstZero (now (file .entry)) from ⌝ }
 {
@@ -37,7 +37,7 @@ fn text_from(file: &[u8], start: usize) -> StringText
     }
 }
 
-// Where the text of the string data at an offset stands: behind at most five length bytes, up to the first zero byte.
+// Where the text of the string data at an offset stands: after at most five length bytes, up to the first zero byte.
 pub fn string_data(file: &[u8], offset: usize) -> StringText
     ensures { λ r. ⌜ says r ≡ stringText (now (file .entry)) offset ⌝ }
 {

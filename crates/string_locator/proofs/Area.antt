@@ -1,4 +1,4 @@
--- The text area of a map lies inside the file, and every string's data begin in it: it runs from the least data offset to behind the
+-- The text area of a map lies inside the file, and every string's data begin in it: it runs from the least data offset to after the
 -- greatest.
 -- Assumes nothing.
 use Prim.Native.Nat.{ℕ, _+_, _<_, _≤_}
@@ -11,15 +11,15 @@ use borrow.Author.Tests.{eqb-false}
 use Rattle.words.proofs.Shared.{cond-elim}
 use Rattle.dalvik.specs.Ids.{item, stringIdSize, string-data-off}
 use Rattle.refusal.specs.Refusals.{tooLarge}
-use Rattle.leb128.specs.Leb.{ulebLen, onLen}
-use Rattle.leb128.specs.declared.Len.{Len}
-use Rattle.leb128.specs.declared.Len.the-variants as l
-use Rattle.leb128.proofs.Laws.{len-in}
 use Rattle.string_data.specs.Text.{firstZero, onZero}
 use Rattle.string_data.specs.declared.Zero.{Zero}
 use Rattle.string_data.specs.declared.Zero.the-variants as z
 use Rattle.string_data.proofs.Laws.{zero-in}
+use Rattle.string_locator.specs.LengthBytes.{lengthBytes, onLength}
+use Rattle.string_locator.specs.declared.Length.{Length}
+use Rattle.string_locator.specs.declared.Length.the-variants as l
 use Rattle.string_locator.specs.Map.{least, greatest, MapOutcome, none, area, textArea, stringsArea, mapOutcome}
+use Rattle.string_locator.proofs.LengthBytes.{length-in}
 use Rattle.string_locator.proofs.Keys.{least-low, greatest-high}
 
 pub record Within (s : List ℕ) (table : ℕ) (o : MapOutcome) : Type 0 where
@@ -41,13 +41,13 @@ module _ (s : List ℕ) (table n : ℕ) where
         }
     zero-within k q z.Nothing e = none-within 5
 
-    len-within : (r : Len) → r ≡ ulebLen s hi → Within s table (onLen r (none 5) (λ (k : ℕ). onZero (firstZero s (hi + k)) (none 5) (λ (m : ℕ). area lo (hi + k + m + 1) n)))
-    len-within (l.Bytes k) e = zero-within k (len-in s hi k e .0) (firstZero s (hi + k)) refl
-    len-within l.RunsOff e = none-within 5
+    len-within : (r : Length) → r ≡ lengthBytes s hi → Within s table (onLength r (none 5) (λ (k : ℕ). onZero (firstZero s (hi + k)) (none 5) (λ (m : ℕ). area lo (hi + k + m + 1) n)))
+    len-within (l.Bytes k) e = zero-within k (length-in s hi k e .0) (firstZero s (hi + k)) refl
+    len-within l.Nothing e = none-within 5
 
     text-within : Within s table (textArea s lo hi n)
     unfolding textArea
-    text-within = len-within (ulebLen s hi) refl
+    text-within = len-within (lengthBytes s hi) refl
 
   strings-within : 0 < n → Within s table (stringsArea s table n)
   unfolding stringsArea

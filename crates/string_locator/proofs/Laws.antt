@@ -1,4 +1,4 @@
--- The string map's definitions, a law for each way out of them. Keys are written one behind another, and the bounds are those of the
+-- The string map's definitions, a law for each way out of them. Keys are written one after another, and the bounds are those of the
 -- strings passed.
 -- Assumes nothing.
 use Prim.Native.Nat.{ℕ, zero, suc, _+_, _-_, _<_, _≤_, min, max}
@@ -20,14 +20,14 @@ use Rattle.refusal.specs.Refusals.{tooLarge}
 use Rattle.structs.specs.Reads.{read32}
 use Rattle.structs.specs.declared.Read32.the-variants as v32
 use Rattle.structs.proofs.Laws.{in32}
-use Rattle.leb128.specs.Leb.{ulebLen, onLen}
-use Rattle.leb128.specs.declared.Len.{Len}
-use Rattle.leb128.specs.declared.Len.the-variants as l
 use Rattle.string_data.specs.Text.{firstZero, onZero}
 use Rattle.string_data.specs.declared.Zero.{Zero}
 use Rattle.string_data.specs.declared.Zero.the-variants as z
 use Rattle.sort_keys.specs.Sorted.{sorted}
 use Rattle.sort_keys.proofs.Sorted.{length-sorted}
+use Rattle.string_locator.specs.LengthBytes.{lengthBytes, onLength}
+use Rattle.string_locator.specs.declared.Length.{Length}
+use Rattle.string_locator.specs.declared.Length.the-variants as l
 use Rattle.string_locator.specs.Map.{keyOf, keysOf, least, greatest, MapOutcome, none, area, textArea, stringsArea, mapOutcome}
 
 -- ---- a data offset read
@@ -81,15 +81,15 @@ module _ (s : List ℕ) (table : ℕ) where
 
 -- ---- the area
 module _ (s : List ℕ) (lo hi n : ℕ) where
-  pub no-length : l.RunsOff ≡ ulebLen s hi → none 5 ≡ textArea s lo hi n
+  pub no-length : l.Nothing ≡ lengthBytes s hi → none 5 ≡ textArea s lo hi n
   unfolding textArea
   no-length e = rw (← e)
 
-  pub no-zero : (k : ℕ) → l.Bytes k ≡ ulebLen s hi → z.Nothing ≡ firstZero s (hi + k) → none 5 ≡ textArea s lo hi n
+  pub no-zero : (k : ℕ) → l.Bytes k ≡ lengthBytes s hi → z.Nothing ≡ firstZero s (hi + k) → none 5 ≡ textArea s lo hi n
   unfolding textArea
   no-zero k e f = rw (← e, ← f)
 
-  pub area-found : (k m : ℕ) → l.Bytes k ≡ ulebLen s hi → z.Behind m ≡ firstZero s (hi + k) → area lo (hi + k + m + 1) n ≡ textArea s lo hi n
+  pub area-found : (k m : ℕ) → l.Bytes k ≡ lengthBytes s hi → z.Behind m ≡ firstZero s (hi + k) → area lo (hi + k + m + 1) n ≡ textArea s lo hi n
   unfolding textArea
   area-found k m e f = rw (← e, ← f)
 
@@ -139,14 +139,14 @@ module _ (s : List ℕ) (table n lent : ℕ) where
   zero-room (z.Behind k) g h = h k
   zero-room z.Nothing g h = none-room 0 0 5
 
-  len-room : (r : Len) (g : ℕ → MapOutcome) → ((k : ℕ) → Room s table n lent (g k)) → Room s table n lent (onLen r (none 5) g)
+  len-room : (r : Length) (g : ℕ → MapOutcome) → ((k : ℕ) → Room s table n lent (g k)) → Room s table n lent (onLength r (none 5) g)
   len-room (l.Bytes k) g h = h k
-  len-room l.RunsOff g h = none-room 0 0 5
+  len-room l.Nothing g h = none-room 0 0 5
 
   text-room : (lo hi : ℕ) → n ≤ lent → item table stringIdSize n ≤ length s → Room s table n lent (textArea s lo hi n)
   unfolding textArea
   text-room lo hi p q =
-      len-room (ulebLen s hi) (λ (k : ℕ). onZero (firstZero s (hi + k)) (none 5) (λ (z : ℕ). area lo (hi + k + z + 1) n))
+      len-room (lengthBytes s hi) (λ (k : ℕ). onZero (firstZero s (hi + k)) (none 5) (λ (z : ℕ). area lo (hi + k + z + 1) n))
       (λ k. zero-room (firstZero s (hi + k)) (λ (z : ℕ). area lo (hi + k + z + 1) n) (λ m. record { lent-enough = p; few = omega arith; ids = λ _. q }))
 
   strings-room : n ≤ lent → item table stringIdSize n ≤ length s → Room s table n lent (stringsArea s table n)

@@ -1,3 +1,4 @@
+pub mod LengthBytes
 pub mod Laws
 pub mod Keys
 pub mod Area

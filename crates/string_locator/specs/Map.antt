@@ -1,4 +1,4 @@
--- The string map, as document 01 says under string_locator.rs (`_build_map`) and "String map": a key for each string, sorted, and
+-- The string map (SPEC, String map; `_build_map` of string_locator.rs): a key for each string, sorted, and
 -- the text area. Faults in order: 1; no string succeeds; 3; 4; 5.
 -- Assumes nothing.
 use Prim.Native.Nat.{ℕ, zero, suc, _+_, _*_, _^_, _<_, _≤_, min, max}
@@ -10,9 +10,9 @@ use lib.Dec.{ltb, leb, eqb}
 use Rattle.words.specs.Padded.{padded}
 use Rattle.dalvik.specs.Ids.{item, stringIdSize, string-data-off}
 use Rattle.refusal.specs.Refusals.{refusalNumber, tooLarge}
-use Rattle.leb128.specs.Leb.{ulebLen, onLen}
 use Rattle.string_data.specs.Text.{firstZero, onZero}
 use Rattle.sort_keys.specs.Sorted.{sorted}
+use Rattle.string_locator.specs.LengthBytes.{lengthBytes, onLength}
 use Rattle.string_locator.specs.declared.StringMap.{StringMap}
 use Rattle.string_locator.specs.declared.StringMap.the-variants as m
 
@@ -34,7 +34,7 @@ unfoldable pub greatest : List ℕ → ℕ → ℕ → ℕ
 greatest s table zero = string-data-off s table 0
 greatest s table (suc n) = max (greatest s table n) (string-data-off s table n)
 
--- document 01's number, 0 for success; the text area, from start up to end; how many keys
+-- the refusal's number, 0 for success; the text area, from start up to end; how many keys
 pub record MapOutcome : Type 0 where
   pub number : ℕ
   pub start : ℕ
@@ -52,9 +52,9 @@ abbrev pub says : StringMap → MapOutcome
 says (m.Map a e n) = area a e n
 says (m.Refused r) = none (refusalNumber r)
 
--- from lo to the first zero behind the length bytes at hi, that zero included; 5: there is none
+-- from lo to the first zero after the length bytes at hi, that zero included; 5: there is none
 unfoldable pub textArea : List ℕ → ℕ → ℕ → ℕ → MapOutcome
-textArea s lo hi n = onLen (ulebLen s hi) (none 5) (λ (k : ℕ). onZero (firstZero s (hi + k)) (none 5) (λ (z : ℕ). area lo (hi + k + z + 1) n))
+textArea s lo hi n = onLength (lengthBytes s hi) (none 5) (λ (k : ℕ). onZero (firstZero s (hi + k)) (none 5) (λ (z : ℕ). area lo (hi + k + z + 1) n))
 
 -- of n strings, n above 0, whose ids are inside the file; 5: a data offset is at or past the end
 unfoldable pub stringsArea : List ℕ → ℕ → ℕ → MapOutcome
@@ -68,7 +68,7 @@ mapOutcome s table n lent =
     (cond (eqb n 0) (area 0 0 0)
     (cond (ltb (length s) (item table stringIdSize n)) (none 3) (cond (ltb lent n) (none 4) (stringsArea s table n))))
 
--- the answer, and in the lent words the sorted keys with zeros behind them: a refusal has no key
+-- the answer, and in the lent words the sorted keys with zeros after them: a refusal has no key
 pub record Built (s : List ℕ) (table n : ℕ) (r : StringMap) (before after : List ℕ) : Type 0 where
   pub answer : says r ≡ mapOutcome s table n (length before)
   pub keys : after ≡ padded (length before) (sorted (keysOf s table (mapOutcome s table n (length before) .count)))

@@ -1,6 +1,5 @@
 // The string map (`_build_map` of string_locator.rs): a key of data offset and index for each string, sorted, and the area of the
 // file in which all their texts lie.
-use leb128::Len;
 use refusal::Refusal;
 use string_data::Zero;
 use structs::Read32;
@@ -8,9 +7,10 @@ use tinydex::DexHeader;
 use tinydex::Table;
 ghost use mathlib.Core.Path.{_≡_};
 ghost use Prim.Native.Nat.{_+_, _<_};
-ghost use lib.ListN.{length, replicate};
+ghost use lib.ListN.{length};
 ghost use Rattle.dalvik.specs.Ids.{string-data-off};
 ghost use Rattle.sort_keys.specs.Sorted.{sorted};
+ghost use Rattle.string_locator.specs.LengthBytes.{lengthBytes};
 ghost use Rattle.string_locator.specs.Map.{keysOf, least, greatest, says, textArea, stringsArea, mapOutcome, Built, Inside};
 
 // The text area and how many keys there are, or why there is no map.
@@ -27,17 +27,6 @@ pub enum StringMap {
 struct Bounds {
     least: u32,
     greatest: u32,
-}
-
-// Every word becomes 0.
-fn clear(keys: &mut [u64])
-    ensures { λ _. ⌜ now (keys .exit) ≡ replicate (length (now (keys .entry))) 0 ⌝ }
-{
-    let mut i = 0;
-    while i < keys.len() {
-        keys[i] = 0;
-        i += 1;
-    }
 }
 
 // The data offset of string i.
@@ -71,11 +60,33 @@ fn offset_bounds(file: &[u8], table: usize, n: usize) -> Bounds
     }
 }
 
+// How many length bytes string data have.
+enum Length {
+    Bytes(usize),
+    Nothing,
+}
+
+// The bytes up to and with the first below 128, however many.
+fn length_bytes(file: &[u8], from: usize) -> Length
+    ensures { λ r. ⌜ r ≡ lengthBytes (now (file .entry)) from ⌝ }
+{
+    let mut at = from;
+    while at < file.len() {
+        let b = file[at];
+        at += 1;
+        if b < 128 {
+            let n = at - from;
+            return Length::Bytes(n);
+        }
+    }
+    Length::Nothing
+}
+
 // The area, where the string with the greatest data offset has its final zero.
 fn text_area(file: &[u8], lo: usize, hi: usize, count: usize) -> StringMap
     ensures { λ r. ⌜ says r ≡ textArea (now (file .entry)) lo hi count ⌝ }
 {
-    let Len::Bytes(len) = leb128::read_uleb128_len(file, hi) else {
+    let Length::Bytes(len) = length_bytes(file, hi) else {
         return StringMap::Refused(Refusal::StringOutside);
     };
     let text = hi + len;
@@ -140,11 +151,11 @@ fn put_keys(file: &[u8], table: usize, keys: &mut [u64])
     sort_keys::sort(keys);
 }
 
-// The map: the sorted keys in front of the lent words, zeros behind them, and only zeros where it refuses.
+// The map: the sorted keys in front of the lent words, zeros after them, and only zeros where it refuses.
 pub fn build_map(file: &[u8], header: DexHeader, keys: &mut [u64]) -> StringMap
     ensures { λ r. ⌜ Built (now (file .entry)) (header .strings .off) (header .strings .size) r (now (keys .entry)) (now (keys .exit)) ⌝ }
 {
-    clear(keys);
+    words::clear_wide(keys);
     let strings = header.strings;
     let found = answer(file, strings, keys.len());
     let StringMap::Map {

@@ -9,9 +9,9 @@ use lib.Dec.{ltb}
 use native.Mathlib.Omega.{arith}
 use borrow.Author.Tests.{lt-ltb, le-ltb, ltb-false}
 use Rattle.words.proofs.Shared.{case, or-right}
-use Rattle.rising.proofs.Sets.{below-or-not}
+use Rattle.word_set.proofs.Sets.{below-or-not}
 use Rattle.refusal.specs.Refusals.{tooLarge, largestFile}
-use Rattle.string_keys.specs.Keys.{goodKeys}
+use Rattle.string_search.specs.Keys.{goodKeys}
 use Rattle.string_search.specs.Search.{searchFault}
 
 module _ (len shortest n : ℕ) (ks : List ℕ) where

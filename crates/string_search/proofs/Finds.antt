@@ -1,7 +1,6 @@
 -- Finds. There is one first occurrence from a place on, so the finds from there are it and those from its end on.
---     decided-yes, decided-no                      a test, by its answer
 --     nearer, ahead-start, ahead-next, ahead-found, ahead-none   the search goes by places of the first and last byte
---     find-occurs, find-behind, finds-apart        every find is an occurrence, and two share no byte
+--     find-occurs, find-after, finds-apart        every find is an occurrence, and two share no byte
 --     owned-first, first-owned, later-owned        the owners from a find on
 -- Assumes nothing.
 use Prim.Native.Nat.{ℕ, _+_, _-_, _≤_, _<_, min}
@@ -15,27 +14,14 @@ use native.Mathlib.Omega.{arith}
 use Rattle.memchr.specs.First as Jump
 use Rattle.memchr.specs.First.{Both}
 use Rattle.memchr.proofs.Firsts.{onward}
-use Rattle.rising.proofs.Sets.{below-or-not}
+use Rattle.word_set.proofs.Sets.{below-or-not}
 use Rattle.string_search.specs.declared.Owner.the-variants.{Entry, Absent}
-use Rattle.string_search.specs.Finds.{Stands, Occurs, First, Find, leftmost, further}
-use Rattle.string_search.specs.Keys.{owner}
-use Rattle.string_search.specs.Search.{OwnsFrom, Decides}
-
--- a test, by its answer
-pub decided-yes : {P : Type 0} → P → Decides P true
-decided-yes p = record { yes = λ e. p; no = λ e. absurd (let z : _≡_ {A = ℕ} 0 1 = cc in omega arith) }
-
-pub decided-no : {P : Type 0} → (P → ⊥) → Decides P false
-decided-no n = record { yes = λ e. absurd (let z : _≡_ {A = ℕ} 0 1 = cc in omega arith); no = λ e. n }
-
--- bytes, one by one
-pub stands-bytes : (s q : List ℕ) (p : ℕ) → p + length q ≤ length s → ((k : ℕ) → k < length q → getD s (p + k) 0 ≡ getD q k 0) → Stands s q p
-stands-bytes s q p h f =
-    let l : length (take (length q) (drop p s)) ≡ length q = simp (length-take, length-drop) (omega arith) in
-    ext-getD 0 (take (length q) (drop p s)) q l (λ i m. getD-take (length q) (drop p s) i 0 (omega arith) ∙ getD-drop p s i 0 ∙ f i (omega arith))
-
-pub byte-stands : (s q : List ℕ) (p k : ℕ) → k < length q → Stands s q p → getD s (p + k) 0 ≡ getD q k 0
-byte-stands s q p k h e = sym (getD-take (length q) (drop p s) k 0 h ∙ getD-drop p s k 0) ∙ ap (λ (l : List ℕ). getD l k 0) e
+use Rattle.memchr.specs.Occurs.{Stands, Occurs}
+use Rattle.string_search.specs.Finds.{First, Find, leftmost, further}
+use Rattle.memchr.proofs.Occurs.{byte-stands}
+use Rattle.string_search.specs.Owner.{owner}
+use Rattle.word_set.specs.Decides.{Decides}
+use Rattle.string_search.specs.Search.{OwnsFrom}
 
 -- ---- from one place of the query's first and last byte to the next
 abbrev pub Ends : List ℕ → List ℕ → ℕ → Type 0

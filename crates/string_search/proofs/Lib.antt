@@ -1,4 +1,5 @@
-pub mod Keys
+pub mod GoodKeys
+pub mod Owners
 pub mod Finds
 pub mod Faults
 pub mod Matching

@@ -14,32 +14,20 @@ use lib.ListN.{length, take, drop}
 use lib.Dec.{eqb}
 use borrow.Author.Tests.{eqb-true, eqb-false}
 use Rattle.words.proofs.Shared.{case}
-use Rattle.rising.specs.declared.Insertion.{Insertion}
-use Rattle.rising.specs.Found.{Matched}
-use Rattle.rising.proofs.Found.{matched-same}
-use Rattle.rising.proofs.Sets.{below-or-not, Listed, set-none, set-with, set-same}
+use Rattle.word_set.specs.declared.Insertion.{Insertion}
+use Rattle.word_set.specs.Found.{Matched}
+use Rattle.word_set.proofs.Found.{matched-same}
+use Rattle.word_set.proofs.Sets.{below-or-not, Listed, set-none, set-with, set-same}
 use Rattle.string_search.specs.declared.Owner.{Owner}
 use Rattle.string_search.specs.declared.Owner.the-variants.{Entry, Absent}
-use Rattle.string_search.specs.Finds.{Stands, Occurs, First, Find, leftmost, further}
-use Rattle.string_search.specs.Keys.{owner}
-use Rattle.string_search.specs.Search.{OwnsFrom, Owns}
+use Rattle.memchr.specs.Occurs.{Stands, Occurs}
+use Rattle.string_search.specs.Finds.{First, Find, leftmost, further}
+use Rattle.string_search.specs.Owner.{owner}
+use Rattle.memchr.proofs.Occurs.{occurs-or-not}
+use Rattle.string_search.specs.Search.{OwnsFrom, Area, Owns}
 use Rattle.string_search.proofs.Finds.{owned-first, first-owned, later-owned, none-owned}
 
-same-list : (xs ys : List ℕ) → (xs ≡ ys) ⊎ (xs ≡ ys → ⊥)
-same-list [] [] = inl refl
-same-list [] (y ∷ ys) = inr (λ e. let z : _≡_ {A = ℕ} 0 1 = cc in omega arith)
-same-list (x ∷ xs) [] = inr (λ e. let z : _≡_ {A = ℕ} 0 1 = cc in omega arith)
-same-list (x ∷ xs) (y ∷ ys) =
-    ⊎-elim (λ (h : eqb x y ≡ true). ⊎-elim (λ (t : xs ≡ ys). inl (let k : x ≡ y = eqb-true x y h in cc)) (λ (t : xs ≡ ys → ⊥). inr (λ e. t (cc))) (same-list xs ys))
-    (λ (h : eqb x y ≡ false). inr (λ e. eqb-false x y h (cc))) (case (eqb x y))
-
 module _ (s q : List ℕ) (e : ℕ) where
-  pub occurs-or-not : (p : ℕ) → Occurs s q e p ⊎ (Occurs s q e p → ⊥)
-  occurs-or-not p =
-      ⊎-elim (λ (h : e < p + length q). inr (λ o. omega (arith, o .inside)))
-      (λ (h : p + length q ≤ e). ⊎-elim (λ (b : Stands s q p). inl record { inside = h; bytes = b }) (λ (b : Stands s q p → ⊥). inr (λ o. b (o .bytes))) (same-list (take (length q) (drop p s)) q))
-      (below-or-not e (p + length q))
-
   -- where no occurrence begins at a place, the first from there is the first from the next
   first-later : {from p : ℕ} → (Occurs s q e from → ⊥) → First s q e (from + 1) p → First s q e from p
   first-later {from} {p} n f = record {
@@ -81,7 +69,7 @@ module _ (s q : List ℕ) (e : ℕ) where
       record { p = t .p; find = further (first-here d) (t .find); before = t .before; reaches = t .reaches }) (below-or-not k (from + length q)))
       (λ (d : Occurs s q e from → ⊥). let t = touched fuel (from + 1) k l (omega arith) (⊎-elim (λ (m : from < k). omega arith) (λ (m : k ≤ from). absurd (d (let i : k ≡ from = omega arith in subst (Occurs s q e) i o))) (below-or-not from k)) o in
       record { p = t .p; find = find-later d (t .find); before = t .before; reaches = t .reaches })
-      (occurs-or-not from)
+      (occurs-or-not s q e from)
 
   pub occurrence-touched : {from k : ℕ} → 0 < length q → from ≤ k → Occurs s q e k → Touched from k
   occurrence-touched {from} {k} l a o = touched (suc k) from k l (omega arith) a o
@@ -111,28 +99,28 @@ module _ (s q : List ℕ) (e : ℕ) where
         ⊎-elim (λ (d : Occurs s q e from). with-owner d (owner ks from) refl (owned-list fuel (from + length q) l (omega arith)))
         (λ (d : Occurs s q e from → ⊥). let r = owned-list fuel (from + 1) l (omega arith) in
         record { list = r .list; set = set-same (λ x o. record { at = o .at; find = find-later d (o .find); owns = o .owns }) (λ x o. record { at = o .at; find = find-past d (o .find); owns = o .owns }) (r .set) })
-        (occurs-or-not from)
+        (occurs-or-not s q e from)
 
-module _ (s ks : List ℕ) (a e : ℕ) (q : List ℕ) where
-  pub owners-listed : Listed (Owns s ks a e q)
+module _ (w : Area) (q : List ℕ) where
+  pub owners-listed : Listed (Owns w q)
   owners-listed =
-      ⊎-elim (λ (h : 0 < length q). ⊎-elim (λ (m : e < a). set-none (λ x o. omega (arith, o .forward)))
-      (λ (m : a ≤ e). ⊎-elim (λ (n : length s < e). set-none (λ x o. omega (arith, o .inside)))
-      (λ (n : e ≤ length s). let l = owned-list s q e ks (suc e) a h (omega arith) in
+      ⊎-elim (λ (h : 0 < length q). ⊎-elim (λ (m : w .to < w .from). set-none (λ x o. omega (arith, o .forward)))
+      (λ (m : w .from ≤ w .to). ⊎-elim (λ (n : length (w .file) < w .to). set-none (λ x o. omega (arith, o .inside)))
+      (λ (n : w .to ≤ length (w .file)). let l = owned-list (w .file) q (w .to) (w .keys) (suc (w .to)) (w .from) h (omega arith) in
       record { list = l .list; set = set-same (λ x o. record { asked = h; forward = m; inside = n; owned = o }) (λ x o. o .owned) (l .set) })
-      (below-or-not (length s) e))
-      (below-or-not e a))
+      (below-or-not (length (w .file)) (w .to)))
+      (below-or-not (w .to) (w .from)))
       (λ (h : length q ≤ 0). set-none (λ x o. omega (arith, o .asked)))
       (below-or-not 0 (length q))
 
   -- an area backward or past the file's end has no owner
-  pub backward : e < a → (x : ℕ) → Owns s ks a e q x → ⊥
+  pub backward : w .to < w .from → (x : ℕ) → Owns w q x → ⊥
   backward h x o = omega (arith, o .forward)
 
-  pub past-end : length s < e → (x : ℕ) → Owns s ks a e q x → ⊥
+  pub past-end : length (w .file) < w .to → (x : ℕ) → Owns w q x → ⊥
   past-end h x o = omega (arith, o .inside)
 
   -- the owners from the area's start on are those of the area
-  module _ (asked : 0 < length q) (forward : a ≤ e) (inside : e ≤ length s) where
-    pub in-area : {out out′ : List ℕ} {r : Insertion} → Matched (OwnsFrom s ks q e a) out out′ r → Matched (Owns s ks a e q) out out′ r
+  module _ (asked : 0 < length q) (forward : w .from ≤ w .to) (inside : w .to ≤ length (w .file)) where
+    pub in-area : {out out′ : List ℕ} {r : Insertion} → Matched (OwnsFrom (w .file) (w .keys) q (w .to) (w .from)) out out′ r → Matched (Owns w q) out out′ r
     in-area m = matched-same (λ x o. record { asked = asked; forward = forward; inside = inside; owned = o }) (λ x o. o .owned) m

@@ -7,16 +7,19 @@ use mathlib.Core.Logic.{_⊎_, inl, inr, ⊎-elim}
 use mathlib.Core.List.{List}
 use lib.ListN.{length}
 use native.Mathlib.Omega.{arith}
-use Rattle.rising.specs.Rising.{SetOf}
-use Rattle.rising.specs.declared.Insertion.{Insertion}
-use Rattle.rising.specs.declared.Insertion.the-variants.{Held, Full}
-use Rattle.marked_set.proofs.Marking.{Marking, mark-pass, mark-add, mark-full}
+use Rattle.word_set.specs.Sets.{SetOf}
+use Rattle.word_set.specs.declared.Insertion.{Insertion}
+use Rattle.word_set.specs.declared.Insertion.the-variants.{Held, Full}
+use Rattle.index_set.proofs.Marking.{Marking, mark-pass, mark-add, mark-full}
 use Rattle.string_search.specs.declared.Next.{Next}
 use Rattle.string_search.specs.declared.Next.the-variants.{At, Nothing}
 use Rattle.string_search.specs.declared.Owner.the-variants.{Entry, Absent}
-use Rattle.string_search.specs.Finds.{Occurs, First, NextFind, at-place, no-more}
-use Rattle.string_search.specs.Keys.{owner}
-use Rattle.string_search.specs.Search.{OwnsFrom, Stepped, joined, passed}
+use Rattle.memchr.specs.Occurs.{Occurs}
+use Rattle.string_search.specs.Steps.{NextFind, at-place, no-more}
+use Rattle.string_search.specs.Finds.{First}
+use Rattle.string_search.specs.Owner.{owner}
+use Rattle.string_search.specs.Steps.{Stepped, joined, passed}
+use Rattle.string_search.specs.Search.{OwnsFrom}
 use Rattle.string_search.proofs.Finds.{owned-first, first-owned, later-owned}
 
 module _ {s q : List ℕ} {e from : ℕ} {r : Next} where

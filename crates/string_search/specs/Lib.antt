@@ -1,3 +1,6 @@
-pub mod Finds
-pub mod Keys
+-- In the order in which a reader needs them.
 pub mod Search
+pub mod Finds
+pub mod Owner
+pub mod Keys
+pub mod Steps

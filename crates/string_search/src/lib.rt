@@ -1,18 +1,25 @@
 // String search (`_match_string_offset` of string_locator.rs): the indices of the strings in which the query's bytes are found. The
 // text area is read once; the owner of each find is looked up among the sorted keys, and marked.
+mod keys; // keys.rt: which lent keys a search takes
+
 use refusal::Answer;
 use refusal::Refusal;
-use rising::Insertion;
+use word_set::Fault;
+use word_set::Insertion;
 ghost use mathlib.Core.Path.{_≡_};
 ghost use Prim.Native.Nat.{_+_, _≤_, _<_};
 ghost use lib.ListN.{length};
 ghost use Rattle.words.specs.Padded.{zeros};
 ghost use Rattle.words.specs.Rising.{Rising};
-ghost use Rattle.rising.specs.Found.{Found, Matched};
-ghost use Rattle.marked_set.specs.Marked.{Blank};
-ghost use Rattle.string_search.specs.Finds.{Stands, NextFind};
-ghost use Rattle.string_search.specs.Keys.{owner};
-ghost use Rattle.string_search.specs.Search.{Decides, Ready, Searched, Stepped, OwnsFrom, Owns, faultNumber, searchFault};
+ghost use Rattle.word_set.specs.Found.{Found, Matched};
+ghost use Rattle.index_set.specs.Marked.{Blank};
+ghost use Rattle.memchr.specs.Occurs.{Stands};
+ghost use Rattle.string_search.specs.Steps.{NextFind};
+ghost use Rattle.string_search.specs.Owner.{owner};
+ghost use Rattle.word_set.specs.Decides.{Decides};
+ghost use Rattle.word_set.specs.Found.{faultNumber};
+ghost use Rattle.string_search.specs.Steps.{Ready, Searched, Stepped};
+ghost use Rattle.string_search.specs.Search.{OwnsFrom, area, Owns, searchFault};
 
 // The string in which a find begins: the entry of a key, by its index, or none.
 pub enum Owner {
@@ -23,12 +30,6 @@ pub enum Owner {
 // The next find.
 pub enum Next {
     At(usize),
-    Nothing,
-}
-
-// What speaks against a search before it begins.
-pub enum Fault {
-    Refused(Refusal),
     Nothing,
 }
 
@@ -47,7 +48,7 @@ fn stands_at(file: &[u8], at: usize, query: &[u8]) -> bool
     true
 }
 
-// The first occurrence at or behind `from`, whole before `end`. It is looked for where the query's first and last byte stand.
+// The first occurrence at or after `from`, whole before `end`. It is looked for where the query's first and last byte stand.
 fn next_find(file: &[u8], from: usize, end: usize, query: &[u8]) -> Next
     requires { ⌜ Searched (now file) (now query) end from × (0 < length (now query)) ⌝ }
     ensures { λ r. ⌜ NextFind (now (file .entry)) (now (query .entry)) end from r ⌝ }
@@ -70,7 +71,7 @@ fn owner_of(keys: &[u64], at: usize) -> Owner
     requires { ⌜ Rising (now keys) × (at < 16777217) ⌝ }
     ensures { λ r. ⌜ r ≡ owner (now (keys .entry)) at ⌝ }
 {
-    let n = rising::place_wide(keys, (at as u64 + 1) * 4294967296);
+    let n = word_set::place_wide(keys, (at as u64 + 1) * 4294967296);
     if n == 0 {
         return Owner::Absent;
     }
@@ -85,7 +86,7 @@ fn match_step(keys: &[u64], at: usize, marks: &mut [u64], out: &mut [u32], n: us
     let Owner::Entry(index) = owner_of(keys, at) else {
         return Insertion::Held(n);
     };
-    marked_set::add(marks, out, n, index)
+    index_set::marked::add(marks, out, n, index)
 }
 
 // The owners of all finds from `start` on. They come in the order of their data, and not of their indices, so they are marked first.
@@ -165,7 +166,7 @@ fn match_string_offset(
     match_many(file, keys, start, end, query, out)
 }
 
-// The faults that the searches share, in order, for a query of so many bytes, of which the operation asks `shortest` at least.
+// The faults that the searches share, in order, for a query of `bytes` bytes, of which the operation asks `shortest` at least.
 pub fn search_fault(file: &[u8], shortest: usize, bytes: usize, keys: &[u64]) -> Fault
     ensures { λ r. ⌜ faultNumber r ≡ searchFault (length (now (file .entry))) shortest bytes (now (keys .entry)) ⌝ }
 {
@@ -178,7 +179,7 @@ pub fn search_fault(file: &[u8], shortest: usize, bytes: usize, keys: &[u64]) ->
     if 255 < bytes {
         return Fault::Refused(Refusal::BadQuery);
     }
-    if string_keys::keys_good(keys) {
+    if keys::keys_good(keys) {
         return Fault::Nothing;
     }
     Fault::Refused(Refusal::LentTable)
@@ -194,7 +195,10 @@ pub fn locate(
     query: &[u8],
     out: &mut [u32],
 ) -> Answer
-    ensures { λ r. ⌜ Found (Owns (now (file .entry)) (now (keys .entry)) start end (now (query .entry))) (searchFault (length (now (file .entry))) 1 (length (now (query .entry))) (now (keys .entry))) r (now (out .entry)) (now (out .exit)) ⌝ }
+    ensures gives { λ r.
+        let searched = area (now (file .entry)) (now (keys .entry)) start end in
+        let fault = searchFault (length (now (file .entry))) 1 (length (now (query .entry))) (now (keys .entry)) in
+        ⌜ Found (Owns searched (now (query .entry))) fault r (now (out .entry)) (now (out .exit)) ⌝ }
 {
     words::clear(out);
     let fault = search_fault(file, 1, query.len(), keys);

@@ -28,12 +28,3 @@ read16 s i = cond (leb (i + 2) (length s)) (v16.Value (le16 s i)) v16.Outside
 
 unfoldable pub read32 : List ℕ → ℕ → Read32
 read32 s i = cond (leb (i + 4) (length s)) (v32.Value (le32 s i)) v32.Outside
-
--- going on after a read: a otherwise, or g of the number
-abbrev pub onRead16 {ℓ} : {A : Type ℓ} → Read16 → A → (ℕ → A) → A
-onRead16 (v16.Value v) a g = g v
-onRead16 v16.Outside a g = a
-
-abbrev pub onRead32 {ℓ} : {A : Type ℓ} → Read32 → A → (ℕ → A) → A
-onRead32 (v32.Value v) a g = g v
-onRead32 v32.Outside a g = a

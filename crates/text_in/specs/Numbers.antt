@@ -19,17 +19,12 @@ isDigit b = leb 48 b && leb b 57
 abbrev pub digit : ℕ → ℕ
 digit b = b - 48
 
--- r is what the byte b stands for
-pub record Digit (b r : ℕ) : Type 0 where
-  pub is : r ≡ digit b
-  pub small : r < 256
-
 -- how many digits a text begins with
 unfoldable pub leading : List ℕ → ℕ
 leading [] = 0
 leading (b ∷ r) = cond (isDigit b) (1 + leading r) 0
 
--- the value of digits behind digits of value v
+-- the value of digits after digits of value v
 unfoldable pub valueFrom : ℕ → List ℕ → ℕ
 valueFrom v [] = v
 valueFrom v (b ∷ r) = valueFrom (10 * v + digit b) r
@@ -41,7 +36,7 @@ abbrev pub onWord {ℓ} : {A : Type ℓ} → Word → A → (ℕ → A) → A
 onWord (w.Fits v) a g = g v
 onWord w.Large a g = a
 
--- the place behind the digits at a place
+-- the place after the digits at a place
 abbrev pub digitsEnd : List ℕ → ℕ → ℕ
 digitsEnd s at = at + leading (drop at s)
 

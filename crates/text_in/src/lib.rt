@@ -3,16 +3,17 @@ ghost use mathlib.Core.Path.{_≡_};
 ghost use Prim.Native.Nat.{_+_, _<_, _≤_};
 ghost use lib.ListN.{length, drop};
 ghost use lib.Seq.{slice};
-ghost use Rattle.text_in.specs.Numbers.{leading, Digit, valueRead, numberAt};
+ghost use Rattle.text_in.specs.Numbers.{leading, valueRead, numberAt};
+ghost use Rattle.text_in.specs.Steps.{Digit};
 ghost use Rattle.text_in.specs.Words.{wordAt, lineEnd};
 
-// A number and the place behind it.
+// A number and the place after it.
 pub enum Number {
     Value { value: u32, next: usize },
     Nothing,
 }
 
-// The place behind what was looked for.
+// The place after what was looked for.
 pub enum Place {
     At(usize),
     Nothing,
@@ -24,7 +25,7 @@ pub enum Word {
     Large,
 }
 
-// The place behind the digits that stand at a place.
+// The place after the digits that stand at a place.
 fn digits_end(text: &[u8], at: usize) -> usize
     ensures { λ r. ⌜ r ≡ at + leading (drop at (now (text .entry))) ⌝ }
 {

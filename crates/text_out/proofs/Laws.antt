@@ -1,4 +1,4 @@
--- Laws of the writers: what is written in two pieces is what is written in one, since a place one behind the end takes no byte.
+-- Laws of the writers: what is written in two pieces is what is written in one, since a place one after the end takes no byte.
 --     Writes     writes-none, writes-byte, writes-then, writes-named, writes-next
 --     Ends       ends-fit, ends-over
 --     textOut    text-out, text-room
@@ -44,7 +44,7 @@ place-then n p [] cs = refl
 place-then n p (b ∷ bs) [] = ap (λ (l : List ℕ). behind n p (b ∷ l)) (sym (append-nil bs))
 place-then n p (b ∷ bs) (c ∷ cs) = omega (arith, length-append bs (c ∷ cs))
 
--- from the place behind them, or from where they would end
+-- from the place after them, or from where they would end
 bytes-then : (l : List ℕ) (p : ℕ) (bs cs : List ℕ) → sets (sets l p bs) (behind (length l) p bs) cs ≡ sets l p (bs ++ cs)
 unfolding behind
 bytes-then l p [] cs = refl
@@ -68,7 +68,7 @@ pub writes-none : (a : List ℕ) (p : ℕ) → Writes a p [] a p
 unfolding behind
 writes-none a p = record { written = refl; place = refl }
 
--- one behind another
+-- one after another
 pub writes-then : (a : List ℕ) (p : ℕ) (bs b : List ℕ) (q : ℕ) (cs c : List ℕ) (r : ℕ) → Writes a p bs b q → Writes b q cs c r
     → Writes a p (bs ++ cs) c r
 writes-then a p bs b q cs c r x y =
@@ -78,7 +78,7 @@ writes-then a p bs b q cs c r x y =
       place = y .place ∙ (rw (n, x .place) (place-then (length a) p bs cs));
     }
 
--- a name and its number behind
+-- a name and its number after
 pub writes-named : (a : List ℕ) (p : ℕ) (bs b : List ℕ) (q : ℕ) (name digits : List ℕ) (c : List ℕ) (r : ℕ) → Writes a p bs b q
     → Writes b q (name ++ digits) c r → Writes a p (bs ++ name ++ digits) c r
 writes-named a p bs b q name digits c r x y = rw (append-assoc bs name digits) (writes-then a p bs b q (name ++ digits) c r x y)

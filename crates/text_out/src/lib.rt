@@ -7,7 +7,7 @@ ghost use Rattle.text_out.specs.Write.{Writes, endAt, Ends};
 use refusal::Answer;
 use refusal::Refusal;
 
-// A byte at a place, and the place behind it. Past the end nothing is written, and the place is one behind the end.
+// A byte at a place, and the place after it. Past the end nothing is written, and the place is one after the end.
 fn put_byte(out: &mut [u8], at: usize, b: u8) -> usize
     ensures { λ r. ⌜ Writes (now (out .entry)) at (b ∷ []) (now (out .exit)) r ⌝ }
 {
@@ -18,7 +18,7 @@ fn put_byte(out: &mut [u8], at: usize, b: u8) -> usize
     out.len() + 1
 }
 
-// Bytes at a place, and the place behind them.
+// Bytes at a place, and the place after them.
 pub fn put(out: &mut [u8], at: usize, bytes: &[u8]) -> usize
     ensures { λ r. ⌜ Writes (now (out .entry)) at (now (bytes .entry)) (now (out .exit)) r ⌝ }
 {
@@ -40,7 +40,7 @@ pub fn put_number(out: &mut [u8], at: usize, n: u64) -> usize
     put(out, at, &text[..k])
 }
 
-// A name, and a number behind it.
+// A name, and a number after it.
 pub fn put_named(out: &mut [u8], at: usize, name: &[u8], n: u64) -> usize
     ensures { λ r. ⌜ Writes (now (out .entry)) at (now (name .entry) ++ decimal n) (now (out .exit)) r ⌝ }
 {
@@ -48,7 +48,7 @@ pub fn put_named(out: &mut [u8], at: usize, name: &[u8], n: u64) -> usize
     put_number(out, a, n)
 }
 
-// A line feed at the text's end, and the answer: refused where that lies behind the lent bytes.
+// A line feed at the text's end, and the answer: refused where that lies past the lent bytes.
 pub fn end_line(out: &mut [u8], at: usize) -> Answer
     ensures { λ r. ⌜ Ends (endAt (now (out .entry)) at) r (now (out .exit)) ⌝ }
 {

@@ -19,7 +19,7 @@ pub struct DexHeader {
 }
 
 impl Table {
-    // The offset behind the table's last item, where items have so many bytes. No table is too large for it.
+    // The offset after the table's last item, where an item has `item` bytes. No table is too large for it.
     pub fn end(self, item: u8) -> u64
         ensures { λ r. ⌜ r ≡ itemAt (self .off) item (self .size) ⌝ }
     {

@@ -1,9 +1,8 @@
 // The type ids by the string that names the type (type_locator.rs). Thin over `groups`.
 ghost use mathlib.Core.Path.{_≡_};
-ghost use lib.ListN.{length};
-ghost use Rattle.dalvik.specs.Ids.{typeIdSize, type-descriptor-idx as descriptorIdx};
-ghost use Rattle.group_slice.specs.Stretch.{stretchOf};
-ghost use Rattle.groups.specs.Built.{outcome, Gives};
+ghost use Rattle.groups.specs.Stretch.{stretchOf};
+ghost use Rattle.groups.specs.Built.{groupWords, Gives};
+ghost use Rattle.type_locator.specs.Built.{outcome};
 use groups::Layout;
 use groups::Width;
 use refusal::Answer;
@@ -16,7 +15,10 @@ pub fn build_map(
     str_offsets: &mut [u32],
     type_idxs: &mut [u32],
 ) -> Answer
-    ensures { λ r. ⌜ Gives (outcome (length (now (s .entry))) (descriptorIdx (now (s .entry)) (header .types .off)) (header .types) typeIdSize (header .strings .size) (length (now («str_offsets» .entry))) (length (now («type_idxs» .entry)))) r (now («str_offsets» .entry)) (now («str_offsets» .exit)) (now («type_idxs» .entry)) (now («type_idxs» .exit)) ⌝ }
+    ensures gives { λ r.
+        let before = groupWords (now («str_offsets» .entry)) (now («type_idxs» .entry)) in
+        let after = groupWords (now («str_offsets» .exit)) (now («type_idxs» .exit)) in
+        ⌜ Gives (outcome (now (s .entry)) header before) r before after ⌝ }
 {
     let types = header.types;
     let layout = Layout {
@@ -38,5 +40,5 @@ pub fn build_map(
 pub fn types_of<'a>(str_offsets: &[u32], type_idxs: &'a [u32], str_idx: u32) -> &'a [u32]
     ensures { λ r. ⌜ now r ≡ stretchOf (now («str_offsets» .entry)) (now («type_idxs» .entry)) «str_idx» ⌝ }
 {
-    group_slice::slice(str_offsets, type_idxs, str_idx)
+    groups::slice::slice(str_offsets, type_idxs, str_idx)
 }

@@ -1,13 +1,16 @@
 // Type search (`TypeLocator::locate` of type_locator.rs): the types that are named by a string in which the query is found.
 use refusal::Answer;
 use refusal::Refusal;
-use rising::Insertion;
-use string_search::Fault;
+use word_set::Fault;
+use word_set::Insertion;
 ghost use mathlib.Core.Path.{_≡_};
 ghost use lib.ListN.{length};
-ghost use Rattle.rising.specs.Found.{Matched};
-ghost use Rattle.marked_set.specs.Marked.{Blank};
-ghost use Rattle.type_search.specs.Types.{TypesOf, Ready, Searched};
+ghost use Rattle.word_set.specs.Found.{Matched};
+ghost use Rattle.index_set.specs.Marked.{Blank};
+ghost use Rattle.type_search.specs.Steps.{TypesOf, Ready};
+ghost use Rattle.groups.specs.Built.{groupWords};
+ghost use Rattle.string_search.specs.Search.{area};
+ghost use Rattle.type_search.specs.Types.{typeWords, Searched};
 
 // The types of all strings found. They come string by string, and not in the order of their indices, so they are marked first.
 fn collect_marked(
@@ -18,16 +21,18 @@ fn collect_marked(
     out: &mut [u32],
 ) -> Insertion
     requires { ⌜ Ready (now out) × Blank (now marks) ⌝ }
-    ensures { λ r. ⌜ Matched (TypesOf (now («str_offsets» .entry)) (now («type_idxs» .entry)) (now (found .entry))) (now (out .entry)) (now (out .exit)) r ⌝ }
+    ensures { λ r.
+        let table = groupWords (now («str_offsets» .entry)) (now («type_idxs» .entry)) in
+        ⌜ Matched (TypesOf table (now (found .entry))) (now (out .entry)) (now (out .exit)) r ⌝ }
 {
     let mut n = 0;
     let mut i = 0;
     while i < found.len() {
-        let Insertion::Held(m) = marked_set::extend(
+        let Insertion::Held(m) = index_set::marked::extend(
             marks,
             out,
             n,
-            group_slice::slice(str_offsets, type_idxs, found[i]),
+            groups::slice::slice(str_offsets, type_idxs, found[i]),
         ) else {
             return Insertion::Full;
         };
@@ -40,7 +45,9 @@ fn collect_marked(
 // With marks for 65,536 types: an instruction names no more.
 fn collect_few(str_offsets: &[u32], type_idxs: &[u32], found: &[u32], out: &mut [u32]) -> Insertion
     requires { ⌜ Ready (now out) ⌝ }
-    ensures { λ r. ⌜ Matched (TypesOf (now («str_offsets» .entry)) (now («type_idxs» .entry)) (now (found .entry))) (now (out .entry)) (now (out .exit)) r ⌝ }
+    ensures { λ r.
+        let table = groupWords (now («str_offsets» .entry)) (now («type_idxs» .entry)) in
+        ⌜ Matched (TypesOf table (now (found .entry))) (now (out .entry)) (now (out .exit)) r ⌝ }
 {
     let mut marks = [0u64; 1024];
     collect_marked(str_offsets, type_idxs, found, &mut marks, out)
@@ -49,7 +56,9 @@ fn collect_few(str_offsets: &[u32], type_idxs: &[u32], found: &[u32], out: &mut 
 // With marks for 4,194,304 types: a file has no more.
 fn collect_many(str_offsets: &[u32], type_idxs: &[u32], found: &[u32], out: &mut [u32]) -> Insertion
     requires { ⌜ Ready (now out) ⌝ }
-    ensures { λ r. ⌜ Matched (TypesOf (now («str_offsets» .entry)) (now («type_idxs» .entry)) (now (found .entry))) (now (out .entry)) (now (out .exit)) r ⌝ }
+    ensures { λ r.
+        let table = groupWords (now («str_offsets» .entry)) (now («type_idxs» .entry)) in
+        ⌜ Matched (TypesOf table (now (found .entry))) (now (out .entry)) (now (out .exit)) r ⌝ }
 {
     let mut marks = [0u64; 65536];
     collect_marked(str_offsets, type_idxs, found, &mut marks, out)
@@ -69,7 +78,9 @@ fn greatest(w: &[u32]) -> u32 {
 // Which marks are taken changes the time and not the types.
 fn collect(str_offsets: &[u32], type_idxs: &[u32], found: &[u32], out: &mut [u32]) -> Insertion
     requires { ⌜ Ready (now out) ⌝ }
-    ensures { λ r. ⌜ Matched (TypesOf (now («str_offsets» .entry)) (now («type_idxs» .entry)) (now (found .entry))) (now (out .entry)) (now (out .exit)) r ⌝ }
+    ensures { λ r.
+        let table = groupWords (now («str_offsets» .entry)) (now («type_idxs» .entry)) in
+        ⌜ Matched (TypesOf table (now (found .entry))) (now (out .entry)) (now (out .exit)) r ⌝ }
 {
     if greatest(type_idxs) < 65536 {
         return collect_few(str_offsets, type_idxs, found, out);
@@ -90,7 +101,12 @@ pub fn locate(
     strings: &mut [u32],
     out: &mut [u32],
 ) -> Answer
-    ensures { λ r. ⌜ Searched (now (file .entry)) (now (keys .entry)) start end (now (query .entry)) (now («str_offsets» .entry)) (now («type_idxs» .entry)) r (now (strings .entry)) (now (strings .exit)) (now (out .entry)) (now (out .exit)) ⌝ }
+    ensures gives { λ r.
+        let searched = area (now (file .entry)) (now (keys .entry)) start end in
+        let table = groupWords (now («str_offsets» .entry)) (now («type_idxs» .entry)) in
+        let before = typeWords (now (strings .entry)) (now (out .entry)) in
+        let after = typeWords (now (strings .exit)) (now (out .exit)) in
+        ⌜ Searched searched (now (query .entry)) table r before after ⌝ }
 {
     words::clear(strings);
     words::clear(out);

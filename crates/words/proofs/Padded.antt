@@ -1,4 +1,4 @@
--- Laws of lent words. Each holds since zeros behind a list neither change what is read nor are changed by what is written before them.
+-- Laws of lent words. Each holds since zeros after a list neither change what is read nor are changed by what is written before them.
 --     padded     length-padded, padded-none, padded-full, padded-at, padded-set, padded-push, padded-part, padded-zeros, padded-front, sets-zeros
 --     zeros      cleared-again
 --     part       length-part

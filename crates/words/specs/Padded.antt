@@ -1,4 +1,4 @@
--- What a lent slice of words holds: a result with zeros behind it, and a slice of which a part was lent on.
+-- What a lent slice of words holds: a result with zeros after it, and a slice of which a part was lent on.
 -- The laws are in proofs/Padded.antt; callers cite them and unfold nothing.
 -- Assumes nothing.
 use Prim.Native.Nat.{ℕ, _-_}
@@ -8,7 +8,7 @@ use lib.ListN.{length, replicate, take, drop}
 abbrev pub zeros : ℕ → List ℕ
 zeros n = replicate n 0
 
--- xs, and zeros behind it up to n words in all
+-- xs, and zeros after it up to n words in all
 unfoldable pub padded : ℕ → List ℕ → List ℕ
 padded n xs = xs ++ zeros (n - length xs)
 

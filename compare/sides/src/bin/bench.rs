@@ -210,7 +210,7 @@ fn items(file: Vec<u8>) -> Vec<Item> {
     let end = from + 32768.min(to - from);
     let (ours, lent, _) = fitted(scan(buf, from, end, 1, wanted), 0);
     add("scan of 32 KiB, string, 1 wanted", ours, lent, rust_scan(dex, from, end, 1, wanted));
-    // const-string/jumbo, one for each of so many strings, all wanted.
+    // const-string/jumbo, one for each of that many strings, all wanted.
     for n in [10_000, 80_000] {
         let mut case = Case::new(SCAN);
         case.file = (0..n).flat_map(|i: u32| [[0x1b, 0].to_vec(), i.to_le_bytes().to_vec()].concat()).collect();
@@ -277,7 +277,7 @@ fn items(file: Vec<u8>) -> Vec<Item> {
     items
 }
 
-/// A search that finds each of n strings, whose data lie in falling order of their indices: behind the string ids, three bytes each.
+/// A search that finds each of n strings, whose data lie in falling order of their indices: after the string ids, three bytes each.
 fn falling(n: u32) -> Case {
     let mut case = Case::new(STRING_SEARCH);
     let data = |index: u32| 4 * n + 3 * (n - 1 - index);
@@ -294,7 +294,7 @@ fn generous(mut case: Case) -> Case {
     case
 }
 
-/// The indices of a kind that stand most often behind its opcodes.
+/// The indices of a kind that stand most often after its opcodes.
 fn most_used(buf: &[u8], from: u32, to: u32, kind: u32) -> Vec<u32> {
     let mut case = Case::new(SCAN);
     case.file = buf.to_vec();
@@ -315,7 +315,7 @@ fn median(mut times: Vec<f64>) -> f64 {
     times[times.len() / 2]
 }
 
-/// Microseconds of one run, medians: the two sides in turn, so many runs at once that the clock doesn't matter.
+/// Microseconds of one run, medians: the two sides in turn, that many runs at once that the clock doesn't matter.
 fn time(item: &mut Item) -> (f64, f64) {
     let runs = |side: &mut Side, n: usize| {
         let t = Instant::now();

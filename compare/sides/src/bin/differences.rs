@@ -34,7 +34,7 @@ fn class_data(n: usize, data: &[u8]) -> Case {
     })
 }
 
-/// One direct method with code at 44, its array at 60, of so many units; a file of n bytes.
+/// One direct method with code at 44, its array at 60, of that many units; a file of n bytes.
 fn code(n: usize, units: u8) -> Case {
     let mut case = class_data(n, &[0, 0, 1, 0, 0, 0, 44]);
     case.file[56] = units;

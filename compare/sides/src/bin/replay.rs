@@ -1,4 +1,4 @@
-//! Writes the replay list: cases and what must be printed for them, by the Rust where it answers, else by document 01. Ours isn't called.
+//! Writes the replay list: cases and what must be printed for them, by the Rust where it answers, else by SPEC. Ours isn't called.
 //! Usage: replay FOLDER SAMPLE; writes FOLDER/data/cases and FOLDER/stdout.
 
 use sides::case::*;
@@ -10,7 +10,7 @@ use std::path::Path;
 
 const SEED: u64 = 20_261_115;
 
-/// Of an operation's answers on the domain, and of each refusal, so many at most; answers only up to so many bytes.
+/// Of an operation's answers on the domain, and of each refusal, that many at most; answers only up to that many bytes.
 const DOMAIN: usize = 240;
 const EACH_REFUSAL: usize = 12;
 const BYTES: usize = 68_000;
@@ -38,7 +38,7 @@ fn main() {
                     let n = o.refusal as usize;
                     (o, &mut refusals[n], EACH_REFUSAL)
                 }
-                Expected::Dispute { .. } => panic!("the Rust differs from document 01: see run --op {}", OPS[op as usize - 1]),
+                Expected::Dispute { .. } => panic!("the Rust differs from SPEC: see run --op {}", OPS[op as usize - 1]),
             };
             if *counter >= most || bytes > BYTES && outcome.refusal == 0 {
                 continue;
@@ -57,7 +57,7 @@ fn main() {
             lines.push('\n');
         }
         let by: Vec<String> = (0..16).filter(|&n| refusals[n] > 0).map(|n| format!("{n}: {}", refusals[n])).collect();
-        println!("{:17} {domain} answers, {answered} by document 01 alone, refusals {}; {bytes} bytes", OPS[op as usize - 1], by.join(", "));
+        println!("{:17} {domain} answers, {answered} by SPEC alone, refusals {}; {bytes} bytes", OPS[op as usize - 1], by.join(", "));
     }
     let folder = Path::new(folder);
     fs::create_dir_all(folder.join("data")).unwrap();

@@ -1,4 +1,4 @@
--- `build_map_bydef` meets its contract: a definition walked leaves those behind it, and adds at most as many codes as the file has bytes.
+-- `build_map_bydef` meets its contract: a definition walked leaves those after it, and adds at most as many codes as the file has bytes.
 -- Assumes nothing.
 use borrow.Author.Needs.{needs}
 use native.Mathlib.Omega.{arith}
@@ -6,10 +6,13 @@ use Rattle.class_data.proofs.build_map_bydef.Statement.{statement}
 use Rattle.class_data.proofs.build_map_bydef.Tie as tie
 use mathlib.Core.Path.{refl}
 use Rattle.class_data.proofs.Items.{ByDef, def-told, def-refused, bydef-again, defined-no, defined-end}
-use Rattle.class_data.proofs.Kept.{found-seen, refused-seen}
+use Rattle.class_data.specs.Stored.{codeWords}
+use Rattle.class_data.specs.Steps.{kept}
+use Rattle.class_data.proofs.Kept.{found-seen, refused-seen, turn}
 
 abbrev Inv-loop : tie.InvT-loop
-Inv-loop buf methods triples₀ starts₀ at₀ left₀ count₀ triples starts at left count = ByDef buf methods left₀ at₀ triples₀ starts₀ triples starts at left count
+Inv-loop buf methods triples₀ starts₀ at₀ left₀ count₀ triples starts at left count =
+    ByDef buf methods (turn left₀ at₀ (kept 0 (codeWords triples₀ starts₀))) (turn left at (kept count (codeWords triples starts)))
 
 abbrev μ-loop : tie.MeasureT-loop
 μ-loop buf methods triples₀ starts₀ at₀ left₀ count₀ triples starts at left count = left
@@ -18,16 +21,22 @@ cast-at : tie.Need-cast-at Inv-loop μ-loop
 cast-at c = search needs
 
 loop-holds : tie.Need-loop-holds Inv-loop μ-loop
-loop-holds c = record { rest = refl; most = omega arith; place = omega arith; few = omega arith; long = refl; wide = refl }
+loop-holds c = record { rest = refl; most = omega arith; place = omega arith; few = omega arith; same = record { triples = refl; starts = refl } }
 
 class-def-requires : tie.Need-class-def-requires Inv-loop μ-loop
-class-def-requires c κs = let x = c .before .before .before .loop .inv in record { small = c .before .before .before .before .before .before .before .before .pre; place = omega arith; few = omega arith }
+class-def-requires c κs =
+    let at-loop = c .before .before .before in
+    let x = at-loop .loop .inv in
+    record { small = at-loop .before .before .before .before .before .pre; place = omega arith; few = omega arith }
 
 enum-known-found : tie.Need-enum-known-found Inv-loop μ-loop
 enum-known-found c = search needs
 
 add-at : tie.Need-add-at Inv-loop μ-loop
-add-at c = let x = c .before .before .before .before .before .before .before .before .before .before .before .loop .inv in omega arith
+add-at c =
+    let at-call = c .before .before .before .before .before .before .before in
+    let x = at-call .before .before .before .before .loop .inv in
+    omega arith
 
 sub-left : tie.Need-sub-left Inv-loop μ-loop
 sub-left c = search needs
@@ -36,7 +45,13 @@ loop-less : tie.Need-loop-less Inv-loop μ-loop
 loop-less c = search needs
 
 loop-again : tie.Need-loop-again Inv-loop μ-loop
-loop-again c = bydef-again _ _ _ _ _ _ _ _ _ _ _ (c .before .before .before .before .before .before .before .before .before .before .before .loop .inv) (c .before .before .before .before .before .before .before .before .before .before .before .before .before .before .before .before .pre) (c .before .before .before .before .before .before .before .before .before .before .loop-test .taken) _ _ _ (def-told _ _ _ _ _ _ _ _ _ (c .before .before .before .before .before .before .before .class-def .ensures) _ _ (c .before .found .given .1)) (c .before .before .before .before .starts .given) (c .before .before .before .before .before .before .triples .given)
+loop-again c =
+    let at-call = c .before .before .before .before .before .before .before in
+    let at-test = at-call .before .before .before in
+    let at-loop = at-test .before in
+    bydef-again (at-loop .loop .inv) (at-loop .before .before .before .before .before .pre) (at-test .loop-test .taken) _
+    (def-told _ _ _ _ _ _ (at-call .class-def .ensures) _ _ (c .before .found .given .1))
+    (record { triples = c .before .before .before .before .before .before .triples .given; starts = c .before .before .before .before .starts .given })
 
 enum-known-r : tie.Need-enum-known-r Inv-loop μ-loop
 enum-known-r c = search needs
@@ -48,7 +63,11 @@ same-length-2 : tie.Need-same-length-2 Inv-loop μ-loop
 same-length-2 c = search needs
 
 returns : tie.Need-returns Inv-loop μ-loop
-returns c = refused-seen _ _ _ _ (defined-no _ _ _ _ _ _ _ _ _ (omega arith) (def-refused _ _ _ _ _ _ _ _ _ (c .before .before .before .before .before .before .before .class-def .ensures) _ (c .before .r .given .1)) (c .before .before .before .before .before .before .before .before .before .before .before .loop .inv .rest))
+returns c =
+    let at-call = c .before .before .before .before .before .before .before in
+    refused-seen _ _ _
+    (defined-no _ _ _ _ _ _ _ (omega arith) (def-refused _ _ _ _ _ _ (at-call .class-def .ensures) _ (c .before .r .given .1))
+    (at-call .before .before .before .before .loop .inv .rest))
 
 same-length-3 : tie.Need-same-length-3 Inv-loop μ-loop
 same-length-3 c = search needs
@@ -57,7 +76,7 @@ same-length-4 : tie.Need-same-length-4 Inv-loop μ-loop
 same-length-4 c = search needs
 
 returns-2 : tie.Need-returns-2 Inv-loop μ-loop
-returns-2 c = found-seen _ _ _ _ _ (defined-end _ _ _ _ _ _ _ _ (omega arith) (c .before .loop .inv .rest))
+returns-2 c = found-seen _ _ _ _ (defined-end _ _ _ _ _ _ (omega arith) (c .before .loop .inv .rest))
 
 pub build-map-bydef-spec : {M : Type 1} → statement M
 build-map-bydef-spec =

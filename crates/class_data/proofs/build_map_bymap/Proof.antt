@@ -1,4 +1,4 @@
--- `build_map_bymap` meets its contract: an item walked leaves the items behind it, and adds at most as many codes as the file has bytes.
+-- `build_map_bymap` meets its contract: an item walked leaves the items after it, and adds at most as many codes as the file has bytes.
 -- Assumes nothing.
 use borrow.Author.Needs.{needs}
 use native.Mathlib.Omega.{arith}
@@ -8,10 +8,14 @@ use Prim.Native.Nat.{_+_}
 use Rattle.dalvik.specs.Numbers.{le32}
 use mathlib.Core.Path.{refl}
 use Rattle.class_data.proofs.Items.{ByMap, by-words, bymap-few, bymap-again, successive-no, successive-end}
-use Rattle.class_data.proofs.Kept.{seen-found, seen-refused, found-seen, refused-seen}
+use Rattle.class_data.specs.Stored.{codeWords}
+use Rattle.class_data.specs.Steps.{kept}
+use Rattle.class_data.proofs.Kept.{seen-found, seen-refused, found-seen, refused-seen, turn}
 
 abbrev Inv-loop : tie.InvT-loop
-Inv-loop buf methods entry triples₀ starts₀ size off left₀ at₀ count₀ triples starts left at count = ByMap buf methods (le32 buf (entry + 4)) (le32 buf (entry + 8)) triples₀ starts₀ triples starts left at count
+Inv-loop buf methods entry triples₀ starts₀ size off left₀ at₀ count₀ triples starts left at count =
+    ByMap buf methods (turn (le32 buf (entry + 4)) (le32 buf (entry + 8)) (kept 0 (codeWords triples₀ starts₀)))
+    (turn left at (kept count (codeWords triples starts)))
 
 abbrev μ-loop : tie.MeasureT-loop
 μ-loop buf methods entry triples₀ starts₀ size off left₀ at₀ count₀ triples starts left at count = left
@@ -32,10 +36,17 @@ cast-at : tie.Need-cast-at Inv-loop μ-loop
 cast-at c = search needs
 
 loop-holds : tie.Need-loop-holds Inv-loop μ-loop
-loop-holds c = record { rest = by-words _ _ _ _ _ _ _ _ _ (c .before .word-inside .ensures) (c .word-inside2 .ensures); most = omega arith; few = omega arith; long = refl; wide = refl }
+loop-holds c = record {
+  rest = by-words _ _ _ (c .before .word-inside .ensures) (c .word-inside2 .ensures);
+  most = omega arith;
+  few = omega arith;
+  same = record { triples = refl; starts = refl };
+}
 
 class-data-parse-requires : tie.Need-class-data-parse-requires Inv-loop μ-loop
-class-data-parse-requires c κs = bymap-few _ _ _ _ _ _ _ _ _ _ _ (c .before .before .before .loop .inv) (c .before .before .before .before .before .before .before .before .before .pre .small) (omega arith)
+class-data-parse-requires c κs =
+    let at-loop = c .before .before .before in
+    bymap-few (at-loop .loop .inv) (at-loop .before .before .before .before .before .before .pre .small) (omega arith)
 
 enum-known-next : tie.Need-enum-known-next Inv-loop μ-loop
 enum-known-next c = search needs
@@ -47,7 +58,13 @@ loop-less : tie.Need-loop-less Inv-loop μ-loop
 loop-less c = search needs
 
 loop-again : tie.Need-loop-again Inv-loop μ-loop
-loop-again c = bymap-again _ _ _ _ _ _ _ _ _ _ _ (c .before .before .before .before .before .before .before .before .before .before .before .loop .inv) (c .before .before .before .before .before .before .before .before .before .before .before .before .before .before .before .before .before .pre .small) (c .before .before .before .before .before .before .before .before .before .before .loop-test .taken) _ _ _ _ (seen-found _ _ _ _ (c .before .before .before .before .before .before .before .class-data-parse .ensures) _ _ (c .before .next .given .1)) (c .before .before .before .before .starts .given) (c .before .before .before .before .before .before .triples .given)
+loop-again c =
+    let at-call = c .before .before .before .before .before .before .before in
+    let at-test = at-call .before .before .before in
+    let at-loop = at-test .before in
+    bymap-again (at-loop .loop .inv) (at-loop .before .before .before .before .before .before .pre .small) (at-test .loop-test .taken) _ _
+    (seen-found _ _ _ (at-call .class-data-parse .ensures) _ _ (c .before .next .given .1))
+    (record { triples = c .before .before .before .before .before .before .triples .given; starts = c .before .before .before .before .starts .given })
 
 enum-known-r : tie.Need-enum-known-r Inv-loop μ-loop
 enum-known-r c = search needs
@@ -59,7 +76,11 @@ same-length-2 : tie.Need-same-length-2 Inv-loop μ-loop
 same-length-2 c = search needs
 
 returns : tie.Need-returns Inv-loop μ-loop
-returns c = refused-seen _ _ _ _ (successive-no _ _ _ _ _ _ _ _ _ (omega arith) (seen-refused _ _ _ _ (c .before .before .before .before .before .before .before .class-data-parse .ensures) _ (c .before .r .given .1)) (c .before .before .before .before .before .before .before .before .before .before .before .loop .inv .rest))
+returns c =
+    let at-call = c .before .before .before .before .before .before .before in
+    refused-seen _ _ _
+    (successive-no _ _ _ _ _ _ _ (omega arith) (seen-refused _ _ _ (at-call .class-data-parse .ensures) _ (c .before .r .given .1))
+    (at-call .before .before .before .before .loop .inv .rest))
 
 same-length-3 : tie.Need-same-length-3 Inv-loop μ-loop
 same-length-3 c = search needs
@@ -68,7 +89,7 @@ same-length-4 : tie.Need-same-length-4 Inv-loop μ-loop
 same-length-4 c = search needs
 
 returns-2 : tie.Need-returns-2 Inv-loop μ-loop
-returns-2 c = found-seen _ _ _ _ _ (successive-end _ _ _ _ _ _ _ _ (omega arith) (c .before .loop .inv .rest))
+returns-2 c = found-seen _ _ _ _ (successive-end _ _ _ _ _ _ (omega arith) (c .before .loop .inv .rest))
 
 pub build-map-bymap-spec : {M : Type 1} → statement M
 build-map-bymap-spec =

@@ -21,16 +21,20 @@ enum-told : tie.Need-enum-told
 enum-told c = search needs
 
 returns : tie.Need-returns
-returns c = def-outside _ _ _ _ _ _ _ _ (read32-outside _ _ (met (c .enum-told .given .1) (c .before .before .read-u32 .ensures)))
+returns c = def-outside _ _ _ _ _ (read32-outside _ _ (met (c .enum-told .given .1) (c .before .before .read-u32 .ensures)))
 
 returns-2 : tie.Need-returns-2
-returns-2 c = def-none _ _ _ _ _ _ _ (read32-value _ _ _ (met (c .before .before .off .given .1) (c .before .before .before .before .read-u32 .ensures))) _ (omega arith)
+returns-2 c =
+    let at-off = c .before .before in
+    def-none _ _ _ _ _ (read32-value _ _ _ (met (at-off .off .given .1) (at-off .before .before .read-u32 .ensures))) _ (omega arith)
 
 cast-class-data-parse : tie.Need-cast-class-data-parse
 cast-class-data-parse c = search needs
 
 class-data-parse-requires : tie.Need-class-data-parse-requires
-class-data-parse-requires c κs = record { small = c .before .before .before .before .before .before .before .before .before .before .pre .small; few = c .before .before .before .before .before .before .before .before .before .before .pre .few }
+class-data-parse-requires c κs =
+    let p = c .before .before .before .before .before .before .before .before .before .before .pre in
+    record { small = p .small; few = p .few }
 
 same-length : tie.Need-same-length
 same-length c = search needs
@@ -39,7 +43,12 @@ same-length-2 : tie.Need-same-length-2
 same-length-2 c = search needs
 
 returns-3 : tie.Need-returns-3
-returns-3 c = def-some _ _ _ _ _ _ _ (read32-value _ _ _ (met (c .before .before .before .before .before .before .before .before .before .off .given .1) (c .before .before .before .before .before .before .before .before .before .before .before .read-u32 .ensures))) _ _ _ (c .before .before .before .before .before .before .before .if1 .left) (c .before .before .before .before .class-data-parse .ensures)
+returns-3 c =
+    let at-call = c .before .before .before .before in
+    let at-if = at-call .before .before .before in
+    let at-off = at-if .before .before in
+    def-some _ _ _ _ _ (read32-value _ _ _ (met (at-off .off .given .1) (at-off .before .before .read-u32 .ensures))) _ _ (at-if .if1 .left)
+    (at-call .class-data-parse .ensures)
 
 pub class-def-spec : {M : Type 1} → statement M
 class-def-spec =

@@ -3,6 +3,7 @@
 use borrow.Author.Needs.{needs}
 use Rattle.class_data.proofs.codes.Statement.{statement}
 use Rattle.class_data.proofs.codes.Tie as tie
+use Rattle.class_data.specs.Stored.{codeWords}
 use Rattle.class_data.proofs.Gives.{gives-refused, done-told, refused-told, cleared-again}
 
 walk-fitting-requires : tie.Need-walk-fitting-requires
@@ -27,7 +28,7 @@ same-length-2 : tie.Need-same-length-2
 same-length-2 c = search needs
 
 returns : tie.Need-returns
-returns c = done-told _ _ _ _ _ _ _ (c .before .before .before .before .before .before .before .walk-fitting .ensures) _ (c .before .count .given .1)
+returns c = done-told _ _ _ _ _ (c .before .before .before .before .before .before .before .walk-fitting .ensures) _ (c .before .count .given .1)
 
 same-length-3 : tie.Need-same-length-3
 same-length-3 c = search needs
@@ -36,7 +37,14 @@ same-length-4 : tie.Need-same-length-4
 same-length-4 c = search needs
 
 returns-2 : tie.Need-returns-2
-returns-2 c = gives-refused _ _ _ _ _ _ _ (refused-told _ _ _ _ _ _ _ (c .before .before .before .before .before .before .before .before .before .before .before .before .before .before .before .walk-fitting .ensures) _ (c .before .before .before .before .before .before .before .before .before .r .given .1)) (cleared-again _ (c .before .before .before .before .before .before .before .before .before .before .before .before .before .before .before .walk-fitting .last .1 .1 .0) (c .before .before .before .before .before .before .before .before .before .before .before .before .before .before .before .before .before .before .before .before .before .args .triples .now) (c .before .before .before .before .before .before .clear .ensures) (c .before .before .before .before .before .before .before .before .before .before .before .before .before .before .triples .given)) (cleared-again _ (c .before .before .before .before .before .before .before .before .before .before .before .before .before .before .before .walk-fitting .last .1 .1 .1 .0) (c .before .before .before .before .before .before .before .before .before .before .before .before .before .before .before .before .before .before .before .before .before .args .starts .now) (c .before .before .clear2 .ensures) (c .before .before .before .before .before .before .before .before .before .before .before .before .starts .given))
+returns-2 c =
+    let at-refused = c .before .before .before .before .before .before .before .before .before in
+    let at-walk = at-refused .before .before .before .before .before .before in
+    let p = at-walk .walk-fitting in
+    gives-refused _ _ _ _ _ (refused-told _ _ _ _ _ (p .ensures) _ (at-refused .r .given .1))
+    (cleared-again {mid = codeWords (p .last .1 .1 .0) (p .last .1 .1 .1 .0)}
+    (record { triples = c .before .before .before .before .before .before .clear .ensures; starts = c .before .before .clear2 .ensures })
+    (record { triples = at-refused .before .before .before .before .before .triples .given; starts = at-refused .before .before .before .starts .given }))
 
 pub codes-spec : {M : Type 1} → statement M
 codes-spec =

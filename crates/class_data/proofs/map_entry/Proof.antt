@@ -1,4 +1,4 @@
--- `map_entry` meets its contract: an entry passed leaves the search over those behind it.
+-- `map_entry` meets its contract: an entry passed leaves the search over those after it.
 -- Assumes nothing.
 use borrow.Author.Needs.{needs}
 use native.Mathlib.Omega.{arith}

@@ -13,7 +13,11 @@ enum-known-entry : tie.Need-enum-known-entry
 enum-known-entry c = search needs
 
 build-map-bymap-requires : tie.Need-build-map-bymap-requires
-build-map-bymap-requires c κs = record { small = c .before .before .before .before .before .before .before .before .before .pre; inside = entry-in _ _ _ (place-some _ _ (c .before .before .before .before .before .map-entry .ensures) _ (c .before .before .before .entry .given .1)) }
+build-map-bymap-requires c κs =
+    let at-entry = c .before .before .before in
+    let at-map = at-entry .before .before in
+    let e = place-some _ _ (at-map .map-entry .ensures) _ (at-entry .entry .given .1) in
+    record { small = at-map .before .before .before .before .pre; inside = entry-in _ _ _ e }
 
 enum-told : tie.Need-enum-told
 enum-told c = search needs
@@ -28,7 +32,11 @@ same-length-2 : tie.Need-same-length-2
 same-length-2 c = search needs
 
 returns : tie.Need-returns
-returns c = by-map _ _ _ _ _ _ (place-some _ _ (c .before .before .before .before .before .before .before .before .before .before .map-entry .ensures) _ (c .before .before .before .before .before .before .before .before .entry .given .1)) (c .before .before .before .before .build-map-bymap .ensures)
+returns c =
+    let at-walk = c .before .before .before .before in
+    let at-entry = at-walk .before .before .before .before in
+    let e = place-some _ _ (at-entry .before .before .map-entry .ensures) _ (at-entry .entry .given .1) in
+    by-map _ _ _ _ _ e (at-walk .build-map-bymap .ensures)
 
 same-length-3 : tie.Need-same-length-3
 same-length-3 c = search needs
@@ -37,7 +45,11 @@ same-length-4 : tie.Need-same-length-4
 same-length-4 c = search needs
 
 returns-2 : tie.Need-returns-2
-returns-2 c = by-def _ _ _ _ _ (place-none _ _ (c .before .before .before .before .before .before .before .before .before .map-entry .ensures) (c .before .before .before .before .before .before .before .enum-told .given .1)) (c .before .before .before .before .build-map-bydef .ensures)
+returns-2 c =
+    let at-walk = c .before .before .before .before in
+    let at-nowhere = at-walk .before .before .before in
+    let e = place-none _ _ (at-nowhere .before .before .map-entry .ensures) (at-nowhere .enum-told .given .1) in
+    by-def _ _ _ _ e (at-walk .build-map-bydef .ensures)
 
 pub walk-spec : {M : Type 1} → statement M
 walk-spec =

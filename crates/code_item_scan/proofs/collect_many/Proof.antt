@@ -1,6 +1,7 @@
--- `code_item_scan::collect_many` meets its contract: the set has a bit for every index that a file can have, and tells whether there are others.
+-- The set has a bit for every index that a file can have, and tells whether there are others.
 -- Assumes nothing.
 use Rattle.index_set.proofs.Bits.{held-zeros}
+use Rattle.code_item_scan.proofs.Sets.{wanted-tells}
 use borrow.Author.Needs.{needs}
 use Rattle.code_item_scan.proofs.collect_many.Statement.{statement}
 use Rattle.code_item_scan.proofs.collect_many.Tie as tie
@@ -11,11 +12,16 @@ slice-aggregate-wanted-of c = search needs
 wanted-of-requires : tie.Need-wanted-of-requires
 wanted-of-requires c κs = held-zeros 65536
 
-slice-aggregate-collect-wanted : tie.Need-slice-aggregate-collect-wanted
-slice-aggregate-collect-wanted c = search needs
+slice-aggregate-collect : tie.Need-slice-aggregate-collect
+slice-aggregate-collect c = search needs
 
-collect-wanted-requires : tie.Need-collect-wanted-requires
-collect-wanted-requires c κs = search needs
+slice-aggregate-collect-2 : tie.Need-slice-aggregate-collect-2
+slice-aggregate-collect-2 c = search needs
+
+collect-requires : tie.Need-collect-requires
+collect-requires c κs =
+    let filled = c .before .before .before .before .before in
+    (filled .before .before .before .before .before .before .pre, wanted-tells _ _ _ _ (filled .wanted-of .ensures))
 
 same-length : tie.Need-same-length
 same-length c = search needs
@@ -32,8 +38,9 @@ collect-many-spec =
     (tie.spec
     slice-aggregate-wanted-of
     wanted-of-requires
-    slice-aggregate-collect-wanted
-    collect-wanted-requires
+    slice-aggregate-collect
+    slice-aggregate-collect-2
+    collect-requires
     same-length
     same-length-2
     returns)

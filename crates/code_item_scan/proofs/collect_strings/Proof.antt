@@ -1,8 +1,9 @@
--- `code_item_scan::collect_strings` meets its contract: the small set serves where it has a bit for each wanted word.
+-- The small set serves where it has a bit for each wanted word.
 -- Assumes nothing.
 use mathlib.Core.Path.{subst}
-use Rattle.code_item_scan.specs.Steps.{WantedOf}
 use Rattle.index_set.proofs.Bits.{held-zeros}
+use Rattle.code_item_scan.specs.Steps.{WantedOf}
+use Rattle.code_item_scan.proofs.Sets.{wanted-tells}
 use borrow.Author.Needs.{needs}
 use Rattle.code_item_scan.proofs.collect_strings.Statement.{statement}
 use Rattle.code_item_scan.proofs.collect_strings.Tie as tie
@@ -25,14 +26,20 @@ same-length-2 c = search needs
 returns : tie.Need-returns
 returns c = search needs
 
-slice-aggregate-collect-wanted : tie.Need-slice-aggregate-collect-wanted
-slice-aggregate-collect-wanted c = search needs
+slice-aggregate-collect : tie.Need-slice-aggregate-collect
+slice-aggregate-collect c = search needs
 
-collect-wanted-requires : tie.Need-collect-wanted-requires
-collect-wanted-requires c κs =
-    let w = c .before .before .before .before .before in
-    let told = c .before .before .before .if1 .left in
-    (w .before .before .before .before .before .before .pre, subst (WantedOf _ _) told (w .wanted-of .ensures))
+slice-aggregate-collect-2 : tie.Need-slice-aggregate-collect-2
+slice-aggregate-collect-2 c = search needs
+
+collect-requires : tie.Need-collect-requires
+collect-requires c κs =
+    let told = c .before .before .before .before in
+    let filled = told .before .before in (
+      filled .before .before .before .before .before .before .pre,
+      wanted-tells _ _ _ _
+          (subst (WantedOf _ _) (told .if1 .left) (filled .wanted-of .ensures)),
+    )
 
 same-length-3 : tie.Need-same-length-3
 same-length-3 c = search needs
@@ -53,8 +60,9 @@ collect-strings-spec =
     same-length
     same-length-2
     returns
-    slice-aggregate-collect-wanted
-    collect-wanted-requires
+    slice-aggregate-collect
+    slice-aggregate-collect-2
+    collect-requires
     same-length-3
     same-length-4
     returns-2)

@@ -1,7 +1,7 @@
-use Rattle.index_width.specs.Kinds.{meant}
-use Rattle.code_item_scan.specs.Scan.{hitsOf}
+-- A refusal leaves what was cleared, and the hits collected into zeros are settled.
+-- Assumes nothing.
+use Rattle.code_item_scan.specs.Scan.{asked}
 use Rattle.code_item_scan.proofs.Whole.{admitted-region, admitted-scan, admitted-refusal, gives-refused, gives-settled}
-use lib.ListN.{length}
 use borrow.Author.Needs.{needs}
 use Rattle.code_item_scan.proofs.scan.Statement.{statement}
 use Rattle.code_item_scan.proofs.scan.Tie as tie
@@ -18,10 +18,12 @@ enum-known-a c = search needs
 enum-known-a-2 : tie.Need-enum-known-a-2
 enum-known-a-2 c = search needs
 
-collect-requires : tie.Need-collect-requires
-collect-requires c κs =
-    let a = c .before .before .before .before .before .before .before .before .before .before .before .before .before .before .before .before .before .args in
-    admitted-region (a .file .now) (a .wanted .now) (a .start) (a .end) (a .kind) (c .before .before .before .a2 .given .0 .0) (c .before .before .before .a2 .given .1) (c .before .before .before .before .before .admit .ensures)
+collect-any-requires : tie.Need-collect-any-requires
+collect-any-requires c κs =
+    let told = c .before .before .before in
+    let a = told .before .before .before .before .before .before .before .before .before .before .before .before .before .before .args in
+    admitted-region (a .file .now) (asked (a .kind) (a .wanted .now) (a .start) (a .end)) (told .a2 .given .0 .0) (told .a2 .given .1)
+    (told .before .before .admit .ensures)
 
 settle-requires : tie.Need-settle-requires
 settle-requires c κs = search needs
@@ -34,11 +36,13 @@ same-length-2 c = search needs
 
 returns : tie.Need-returns
 returns c =
-    let a = c .before .before .before .before .before .before .before .before .before .before .before .before .before .before .before .args in
     let w = c .before .a .given in
+    let admitted = c .before .before .before in
+    let cleared = admitted .before .before .before .before .before in
+    let a = cleared .before .before .before .before .before .before .before .args in
     gives-refused (w .0 .0)
-    (admitted-refusal (a .file .now) (a .wanted .now) (a .start) (a .end) (a .kind) (c .before .before .before .admit .ensures) (w .0 .0) (w .1) (length (a .offs .now)) (length (a .marks .now)))
-    (c .before .before .before .before .before .before .before .before .clear-both .ensures)
+    (admitted-refusal (a .file .now) (asked (a .kind) (a .wanted .now) (a .start) (a .end)) _ (w .0 .0) (w .1) (admitted .admit .ensures))
+    (cleared .clear-both .ensures)
 
 same-length-3 : tie.Need-same-length-3
 same-length-3 c = search needs
@@ -48,11 +52,16 @@ same-length-4 c = search needs
 
 returns-2 : tie.Need-returns-2
 returns-2 c =
-    let a = c .before .before .before .before .before .before .before .before .before .before .before .before .before .before .before .before .before .before .before .before .before .before .before .before .before .before .before .before .before .args in
-    let k = c .before .before .before .before .before .before .before .before .before .before .before .before .before .before .before .a2 .given in
-    gives-settled (hitsOf (a .file .now) (meant (k .0 .0)) (a .wanted .now) (a .start) (a .end))
-    (admitted-scan (a .file .now) (a .wanted .now) (a .start) (a .end) (a .kind) (k .0 .0) (k .1) (c .before .before .before .before .before .before .before .before .before .before .before .before .before .before .before .before .before .admit .ensures) (length (a .offs .now)) (length (a .marks .now)))
-    (c .before .before .before .before .before .before .before .before .before .before .before .before .before .before .before .before .before .before .before .before .before .before .clear-both .ensures) (c .before .before .before .before .before .before .before .before .before .before .before .collect .ensures) (c .before .before .before .before .settle .ensures)
+    let settled = c .before .before .before .before in
+    let collected = settled .before .before .before .before .before .before .before in
+    let told = collected .before .before .before .before in
+    let admitted = told .before .before in
+    let cleared = admitted .before .before .before .before .before in
+    let a = cleared .before .before .before .before .before .before .before .args in
+    let k = told .a2 .given in
+    gives-settled _ _ _ _ _
+    (admitted-scan (a .file .now) (asked (a .kind) (a .wanted .now) (a .start) (a .end)) (k .0 .0) (k .1) _ (admitted .admit .ensures))
+    (cleared .clear-both .ensures) (collected .collect-any .ensures) (settled .settle .ensures)
 
 pub scan-spec : {M : Type 1} → statement M
 scan-spec =
@@ -62,7 +71,7 @@ scan-spec =
     admit-requires
     enum-known-a
     enum-known-a-2
-    collect-requires
+    collect-any-requires
     settle-requires
     same-length
     same-length-2

@@ -1,3 +1,5 @@
+-- `add_share` meets its contract: a single method makes a share of two, and a share one that goes on from it.
+-- Assumes nothing.
 use Prim.Native.Nat.{_-_}
 use native.Mathlib.Omega.{arith}
 use Rattle.code_table.proofs.Slots.{joined-single, joined-share}

@@ -1,3 +1,5 @@
+-- `greatest` meets its contract: after i codes the word is one more than the greatest of their last buckets, and the rest raises it to that of all.
+-- Assumes nothing.
 use mathlib.Core.Path.{_≡_, ap, _∙_}
 use mathlib.Core.List.{List}
 use Prim.Native.Nat.{ℕ, _+_, _-_, _≤_, _<_, max}

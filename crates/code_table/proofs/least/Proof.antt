@@ -1,3 +1,5 @@
+-- `least` meets its contract: after i codes the word is the least of their first buckets, and the rest lowers it to that of all.
+-- Assumes nothing.
 use mathlib.Core.Path.{_≡_, sym, ap, _∙_}
 use mathlib.Core.List.{List}
 use Prim.Native.Nat.{ℕ, _+_, _-_, _≤_, _<_, min}

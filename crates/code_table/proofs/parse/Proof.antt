@@ -1,25 +1,57 @@
-use mathlib.Core.Path.{sym, ap, subst, _∙_}
-use lib.ListN.{length}
+-- `parse` meets its contract: what `codes` refuses the build refuses, and what it found is finished over cleared slots and shares.
+-- Assumes nothing.
+use mathlib.Core.Path.{_≡_, sym, ap, subst, _∙_}
+use Prim.Native.Nat.{ℕ}
 use Rattle.words.specs.Padded.{zeros}
+use Rattle.refusal.specs.declared.Refusal.{Refusal}
 use Rattle.refusal.specs.declared.Answer.{Answer}
-use Rattle.class_data.specs.Found.{codesIn, GivesCodes}
-use Rattle.class_data.proofs.Found.{Taken, taken, not-taken}
-use Rattle.code_table.specs.Answer.{roomOf}
+use Rattle.refusal.specs.declared.Answer.the-variants.{Done, Refused}
+use Rattle.class_data.specs.Found.{codesFor, GivesCodes}
+use Rattle.class_data.proofs.Found.{Taken, taken, NotTaken, not-taken}
+use Rattle.code_table.specs.Answer.{TableWords, tableWords, roomOf}
 use Rattle.code_table.proofs.Build.{gives-none}
-use Rattle.code_table.proofs.Walked.{lost, taken-triples, gives-gained}
+use Rattle.code_table.proofs.Walked.{lost, filled, taken-triples, gives-gained}
 use borrow.Author.Needs.{needs}
 use Rattle.code_table.proofs.parse.Statement.{statement}
 use Rattle.code_table.proofs.parse.Tie as tie
 
--- the codes found
-got : (c : tie.After-known-told2)
-    → Taken (c .before .before .before .before .before .before .before .before .before .before .before .before .before .before .before .before .before .before .before .before .before .before .before .args .file .now) (c .before .before .before .before .before .before .before .before .before .before .before .before .before .before .before .before .before .before .before .before .before .before .before .args .header) (c .before .n .given .0 .0) (c .before .before .before .before .before .before .before .before .before .before .before .before .before .before .before .before .before .before .before .before .before .before .before .args .triples .now) (c .before .before .before .before .before .before .before .codes .last .1 .1 .0)
-    (c .before .before .before .before .before .before .before .before .before .before .before .before .before .before .before .before .before .before .before .before .before .before .before .args .starts .now) (c .before .before .before .before .before .before .before .codes .last .1 .1 .1 .0)
-got c =
-    let a = c .before .before .before .before .before .before .before .before .before .before .before .before .before .before .before .before .before .before .before .before .before .before .before .args in
-    let p = c .before .before .before .before .before .before .before .codes in
-    taken (a .file .now) (a .header) (c .before .n .given .0 .0) (a .triples .now) (p .last .1 .1 .0) (a .starts .now) (p .last .1 .1 .1 .0)
-    (subst (λ (x : Answer). GivesCodes (a .header .methods .size) (codesIn (a .file .now) (a .header) (length (a .triples .now)) (length (a .starts .now))) x (a .triples .now) (p .last .1 .1 .0) (a .starts .now) (p .last .1 .1 .1 .0)) (c .before .n .given .1) (p .ensures))
+-- ---- where `codes` was called
+abbrev at-entry : tie.After-codes → tie.Start
+at-entry c = c .before .before .before .before .before .before .before .before .before .before .before .before .before .before .before .before
+
+-- the lent words as they came
+abbrev lent : tie.After-codes → TableWords
+lent c =
+    let a = at-entry c .args in
+    tableWords (a .starts .now) (a .triples .now) (a .slots .now) (a .shares .now)
+
+-- the lent words as `codes` found or left them
+abbrev left : tie.After-codes → TableWords
+left c =
+    let p = c .codes in
+    tableWords (p .last .1 .1 .1 .0) (p .last .1 .1 .0) (c .before .before .before .before .before .before .before .before .before .clear .last .0) (c .before .before .before .before .before .clear2 .last .0)
+
+as-long : (c : tie.After-codes) → roomOf (left c) ≡ roomOf (lent c)
+as-long c =
+    let p = c .codes in
+    rw (p .kept .1 .1 .1 .0, p .kept .1 .1 .0, c .before .before .before .before .before .before .before .before .before .clear .kept .0, c .before .before .before .before .before .clear2 .kept .0)
+
+-- what it says, for each answer
+told : (c : tie.After-codes) (x : Answer) → c .codes .result ≡ x
+    → let a = at-entry c .args in
+    GivesCodes (a .header .methods .size) (codesFor (a .file .now) (a .header) (filled (lent c))) x (filled (lent c)) (filled (left c))
+told c x e =
+    let a = at-entry c .args in
+    subst (λ (y : Answer). GivesCodes (a .header .methods .size) (codesFor (a .file .now) (a .header) (filled (lent c))) y (filled (lent c)) (filled (left c)))
+    e (c .codes .ensures)
+
+got : (c : tie.After-codes) (n : ℕ) → c .codes .result ≡ Done n
+    → Taken (at-entry c .args .file .now) (at-entry c .args .header) n (filled (lent c)) (filled (left c))
+got c n e = taken _ _ (filled (lent c)) (filled (left c)) n (told c (Done n) e)
+
+not-got : (c : tie.After-codes) (r : Refusal) → c .codes .result ≡ Refused r
+    → NotTaken (at-entry c .args .file .now) (at-entry c .args .header) r (filled (lent c)) (filled (left c))
+not-got c r e = not-taken _ _ (filled (lent c)) (filled (left c)) r (told c (Refused r) e)
 
 clear-requires : tie.Need-clear-requires
 clear-requires c κs = search needs
@@ -38,16 +70,13 @@ enum-known-n c = search needs
 
 finish-requires : tie.Need-finish-requires
 finish-requires c κs =
-    let a = c .before .before .before .before .before .before .before .before .before .before .before .before .before .before .before .before .before .before .before .before .before .before .before .before .before .before .before .args in
-    let p = c .before .before .before .before .before .before .before .before .before .before .before .codes in
-    let x = c .before .before .before .before .before .before .before .before .before .before .before .before .before .before .before .before .before .before .before .before .clear in
-    let w = c .before .before .before .before .before .before .before .before .before .before .before .before .before .before .before .before .clear2 in
-    let K = got (c .before .before .before .before) in
+    let at-found = c .before .before .before .before in
+    let at-codes = at-found .before .before .before .before .before .before .before in
+    let x = at-codes .before .before .before .before .before .before .before .before .before .clear in
+    let w = at-codes .before .before .before .before .before .clear2 in
+    let K = got at-codes _ (at-found .before .n .given .1) in
     record {
-      coded = record {
-        codes = K .codes;
-        triples = taken-triples (a .file .now) (a .header) (c .before .before .before .before .before .n .given .0 .0) (a .starts .now) (a .triples .now) (p .last .1 .1 .1 .0) (p .last .1 .1 .0) K (p .kept .1 .1 .0);
-      };
+      coded = record { codes = K .codes; triples = taken-triples _ _ _ (lent at-codes) (left at-codes) K (as-long at-codes) };
       slots = x .ensures ∙ ap zeros (sym (x .kept .0));
       shares = w .ensures ∙ ap zeros (sym (w .kept .0));
     }
@@ -66,15 +95,11 @@ same-length-4 c = search needs
 
 returns : tie.Need-returns
 returns c =
-    let a = c .before .before .before .before .before .before .before .before .before .before .before .before .before .before .before .before .before .before .before .before .before .before .before .args in
-    let p = c .before .before .before .before .before .before .before .codes in
+    let at-codes = c .before .before .before .before .before .before .before in
     let r = c .before .r .given .0 .0 in
-    let G = subst (λ (x : Answer). GivesCodes (a .header .methods .size) (codesIn (a .file .now) (a .header) (length (a .triples .now)) (length (a .starts .now))) x (a .triples .now) (p .last .1 .1 .0) (a .starts .now) (p .last .1 .1 .1 .0)) (c .before .r .given .1) (p .ensures) in
-    let K = not-taken (a .file .now) (a .header) r (a .triples .now) (p .last .1 .1 .0) (a .starts .now) (p .last .1 .1 .1 .0) G in
-    let room = roomOf (a .starts .now) (a .triples .now) (a .slots .now) (a .shares .now) in
-    gives-none _ room r
-    (p .last .1 .1 .1 .0) (p .last .1 .1 .0) (c .before .before .before .before .before .before .before .before .before .before .before .before .before .before .before .before .clear .last .0) (c .before .before .before .before .before .before .before .before .before .before .before .before .clear2 .last .0)
-    (lost (a .file .now) (a .header) room r (K .walk)) (K .starts) (K .triples) (c .before .before .before .before .before .before .before .before .before .before .before .before .before .before .before .before .clear .ensures) (c .before .before .before .before .before .before .before .before .before .before .before .before .clear2 .ensures)
+    let K = not-got at-codes r (c .before .r .given .1) in
+    gives-none _ r (lent at-codes) (left at-codes) (lost _ _ (roomOf (lent at-codes)) r (K .walk))
+    (record { starts = K .starts; triples = K .triples; slots = at-codes .before .before .before .before .before .before .before .before .before .clear .ensures; shares = at-codes .before .before .before .before .before .clear2 .ensures })
 
 same-length-5 : tie.Need-same-length-5
 same-length-5 c = search needs
@@ -90,14 +115,12 @@ same-length-8 c = search needs
 
 returns-2 : tie.Need-returns-2
 returns-2 c =
-    let a = c .before .before .before .before .before .before .before .before .before .before .before .before .before .before .before .before .before .before .before .before .before .before .before .before .before .before .before .before .before .before .before .before .before .before .before .before .args in
-    let p = c .before .before .before .before .before .before .before .before .before .before .before .before .before .before .before .before .before .before .before .before .codes in
-    let q = c .before .before .before .before .before .before .before .before .finish in
-    let x = c .before .before .before .before .before .before .before .before .before .before .before .before .before .before .before .before .before .before .before .before .before .before .before .before .before .before .before .before .before .clear in
-    let w = c .before .before .before .before .before .before .before .before .before .before .before .before .before .before .before .before .before .before .before .before .before .before .before .before .before .clear2 in
-    gives-gained (a .file .now) (a .header) (c .before .before .before .before .before .before .before .before .before .before .before .before .before .before .n .given .0 .0) (a .starts .now) (a .triples .now) (p .last .1 .1 .1 .0) (p .last .1 .1 .0) (got (c .before .before .before .before .before .before .before .before .before .before .before .before .before)) (p .kept .1 .1 .0)
-    (a .slots .now) (a .shares .now) (x .last .0) (w .last .0) (p .kept .1 .1 .1 .0) (x .kept .0) (w .kept .0)
-    (q .result) (q .last .1 .0) (q .last .1 .1 .0) (q .last .1 .1 .1 .0) (q .last .1 .1 .1 .1 .0) (q .ensures)
+    let at-finish = c .before .before .before .before .before .before .before .before in
+    let at-found = at-finish .before .before .before .before .before in
+    let at-codes = at-found .before .before .before .before .before .before .before in
+    let q = at-finish .finish in
+    gives-gained _ _ _ (lent at-codes) (left at-codes) (got at-codes _ (at-found .before .n .given .1)) (as-long at-codes)
+    (q .result) (tableWords (q .last .1 .1 .0) (q .last .1 .1 .1 .0) (q .last .1 .1 .1 .1 .0) (q .last .1 .1 .1 .1 .1 .0)) (q .ensures)
 
 pub parse-spec : {M : Type 1} → statement M
 parse-spec =

@@ -1,3 +1,5 @@
+-- `place` meets its contract: a free start slot is filled with the method, else a share is put after the others and its number filled in.
+-- Assumes nothing.
 use Prim.Native.Nat.{_+_, _-_, _/_}
 use native.Mathlib.Omega.{arith}
 use Rattle.words.proofs.Padded.{lent-fill}
@@ -50,10 +52,11 @@ same-length c = search needs
 
 returns : tie.Need-returns
 returns c = λ N W cd t w words inside H.
-    let a = c .before .before .before .before .before .before .before .before .args in
-    let p = c .before .before .before .before .before .before .before .before .pre in
+    let at-entry = c .before .before .before .before .before .before .before .before in
+    let a = at-entry .args in
+    let p = at-entry .pre in
     let v = lent-fill (a .slots .now) (a .first - a .base) (a .last - a .base + 1 - (a .first - a .base)) (a .method + 1) (c .before .before .fill .last .0) (omega arith) (c .before .before .fill .ensures) in
-    held-free N W (a .base) (a .first) (a .last) (a .method) cd t (a .slots .now) (a .shares .now) (a .used) H words (p .above) (p .rises) inside _ v (c .before .before .before .before .if1 .taken)
+    held-free H words (p .above) (p .rises) inside _ v (c .before .before .before .before .if1 .taken)
 
 share-room-requires : tie.Need-share-room-requires
 share-room-requires c κs = search needs
@@ -63,9 +66,8 @@ add-if2 c = search needs
 
 returns-2 : tie.Need-returns-2
 returns-2 c = λ N W cd t w words inside H.
-    let a = c .before .before .before .before .before .before .args in
     let p = c .before .before .before .before .before .before .pre in
-    held-over N W (a .base) (a .first) (a .last) (a .method) cd t (a .slots .now) (a .shares .now) (a .used) H words (p .above) (p .rises) inside (c .before .before .if1 .left)
+    held-over H words (p .above) (p .rises) inside (c .before .before .if1 .left)
     (omega (arith, c .before .share-room .ensures, c .if2 .taken, w))
 
 add-share-requires : tie.Need-add-share-requires
@@ -103,11 +105,14 @@ same-length-3 c = search needs
 
 returns-3 : tie.Need-returns-3
 returns-3 c = λ N W cd t w words inside H.
-    let a = c .before .before .before .before .before .before .before .before .before .before .before .before .before .before .args in
-    let p = c .before .before .before .before .before .before .before .before .before .before .before .before .before .before .pre in
+    let at-share = c .before .before .before .before .before .before in
+    let at-room = at-share .before .before .before in
+    let at-entry = at-room .before .before .before .before .before in
+    let a = at-entry .args in
+    let p = at-entry .pre in
     let v = lent-fill (a .slots .now) (a .first - a .base) (a .last - a .base + 1 - (a .first - a .base)) (2147483648 + a .used / 3) (c .before .before .fill2 .last .0) (omega arith) (c .before .before .fill2 .ensures) in
-    held-share N W (a .base) (a .first) (a .last) (a .method) cd t (a .slots .now) (a .shares .now) (a .used) H words (p .above) (p .rises) inside (c .before .before .before .before .before .before .before .before .before .before .if1 .left)
-    _ _ v (c .before .before .before .before .before .before .add-share .ensures) (omega (arith, c .before .before .before .before .before .before .before .before .before .share-room .ensures, c .before .before .before .before .before .before .before .before .if2 .left, w))
+    held-share H words (p .above) (p .rises) inside (at-room .before .if1 .left)
+    _ _ v (at-share .add-share .ensures) (omega (arith, at-room .share-room .ensures, at-share .before .before .if2 .left, w))
 
 pub place-spec : {M : Type 1} → statement M
 place-spec =

@@ -1,10 +1,12 @@
+-- `place_all` meets its contract: after i codes the lent words hold the table of the first i codes.
+-- Assumes nothing.
 use mathlib.Core.Path.{_≡_, refl, subst, _∙_}
 use mathlib.Core.List.{List}
 use Prim.Native.Nat.{_+_, _-_, _≤_}
 use lib.ListN.{length}
 use Rattle.dalvik.specs.CodeItem.{Code}
 use Rattle.code_table.specs.Slots.{baseOf, topOf, Table}
-use Rattle.code_table.specs.Steps.{Triples, Holds}
+use Rattle.code_table.specs.Steps.{Triples, slotWords, Holds}
 use Rattle.code_table.proofs.Slots.{upTo, held-none, placeable, turn, table-all, table-over, after-done, after-full}
 use borrow.Author.Needs.{needs}
 use native.Mathlib.Omega.{arith}
@@ -15,7 +17,7 @@ abbrev Inv-loop : tie.InvT-loop
 Inv-loop triples n base slots₀ shares₀ used₀ i₀ slots shares used i =
     (i ≤ n) × (length slots ≡ length slots₀) × (length shares ≡ length shares₀)
     × ((cs : List Code) → Triples triples n cs → base ≡ baseOf cs → topOf cs - base ≤ length slots₀
-    → Holds (length slots₀) (length shares₀) (upTo cs i) slots shares used)
+    → Holds (length slots₀) (length shares₀) (upTo cs i) (slotWords slots shares) used)
 
 abbrev μ-loop : tie.MeasureT-loop
 μ-loop triples n base slots₀ shares₀ used₀ i₀ slots shares used i = n - i
@@ -58,7 +60,7 @@ place-requires c κs =
     let l = c .before .before .before .before .before .before .loop in
     let C = p .cleared .coded in
     let H = l .inv .3 (C .codes) (C .triples) (p .least) (p .enough) in
-    placeable _ _ (C .codes) (C .triples) _ (l .i) (c .before .before .before .before .before .loop-test .taken) (p .least) _ _ _ (omega (arith, p .enough)) (omega (arith, H .fits))
+    placeable (C .triples) (l .i) (c .before .before .before .before .before .loop-test .taken) (p .least) _ _ _ (omega (arith, p .enough)) (omega (arith, H .fits))
 
 enum-known-k : tie.Need-enum-known-k Inv-loop μ-loop
 enum-known-k c = search needs
@@ -74,11 +76,14 @@ same-length-2 c = search needs
 
 returns : tie.Need-returns Inv-loop μ-loop
 returns c = λ cs T b e.
-    let a = c .before .before .before .before .before .before .before .before .before .before .before .before .before .before .before .before .before .args in
-    let l = c .before .before .before .before .before .before .before .before .before .before .before .before .before .loop in
-    let p = c .before .before .before .before .before .before .place in
-    let A = turn _ _ cs T (a .base) (l .i) (c .before .before .before .before .before .before .before .before .before .before .before .before .loop-test .taken) b _ _ (l .used) (l .slots) (l .shares) (p .result) (p .last .0) (p .last .1 .0) (l .inv .2) (l .inv .3 cs T b e) (p .ensures) in
-    table-over cs (l .i + 1) _ (after-full (length (a .slots .now)) (length (a .shares .now)) (upTo cs (l .i + 1)) (p .result) (p .last .0) (p .last .1 .0) (c .enum-told .given .1) A)
+    let at-place = c .before .before .before .before .before .before in
+    let at-test = at-place .before .before .before .before .before .before in
+    let a = at-test .before .before .before .before .before .args in
+    let l = at-test .before .loop in
+    let p = at-place .place in
+    let now-held = slotWords (p .last .0) (p .last .1 .0) in
+    let A = turn T (l .i) (at-test .loop-test .taken) b (p .result) (slotWords (l .slots) (l .shares)) now-held (l .inv .2) (l .inv .3 cs T b e) (p .ensures) in
+    table-over cs (l .i + 1) _ (after-full (length (a .slots .now)) (length (a .shares .now)) (upTo cs (l .i + 1)) (p .result) now-held (c .enum-told .given .1) A)
 
 add-i : tie.Need-add-i Inv-loop μ-loop
 add-i c = search needs
@@ -88,15 +93,16 @@ loop-less c = search needs
 
 loop-again : tie.Need-loop-again Inv-loop μ-loop
 loop-again c =
-    let a = c .before .before .before .before .before .before .before .before .before .before .before .before .before .before .before .before .before .before .args in
-    let l = c .before .before .before .before .before .before .before .before .before .before .before .before .before .before .loop in
-    let p = c .before .before .before .before .before .before .before .place in (
+    let at-place = c .before .before .before .before .before .before .before in
+    let at-test = at-place .before .before .before .before .before .before in
+    let l = at-test .before .loop in
+    let p = at-place .place in (
       omega arith,
       p .kept .0 ∙ l .inv .1,
       p .kept .1 .0 ∙ l .inv .2,
       λ cs T b e.
           after-done _ (c .before .k .given .1)
-          (turn _ _ cs T (a .base) (l .i) (c .before .before .before .before .before .before .before .before .before .before .before .before .before .loop-test .taken) b _ _ (l .used) (l .slots) (l .shares) (p .result) (p .last .0) (p .last .1 .0) (l .inv .2) (l .inv .3 cs T b e) (p .ensures)),
+          (turn T (l .i) (at-test .loop-test .taken) b (p .result) (slotWords (l .slots) (l .shares)) (slotWords (p .last .0) (p .last .1 .0)) (l .inv .2) (l .inv .3 cs T b e) (p .ensures)),
     )
 
 same-length-3 : tie.Need-same-length-3 Inv-loop μ-loop
@@ -110,7 +116,7 @@ returns-2 c = λ cs T b e.
     let a = c .before .before .before .before .before .args in
     let l = c .before .loop in
     let k : length cs ≤ l .i = omega (arith, T .count) in
-    subst (λ (t : Table). Holds (length (a .slots .now)) (length (a .shares .now)) t (l .slots) (l .shares) (l .used)) (table-all cs (l .i) k) (l .inv .3 cs T b e)
+    subst (λ (t : Table). Holds (length (a .slots .now)) (length (a .shares .now)) t (slotWords (l .slots) (l .shares)) (l .used)) (table-all cs (l .i) k) (l .inv .3 cs T b e)
 
 pub place-all-spec : {M : Type 1} → statement M
 place-all-spec =

@@ -1,3 +1,5 @@
+-- `put_share` meets its contract: three stores one after another are the list stored from that place on.
+-- Assumes nothing.
 use native.Mathlib.Omega.{arith}
 use lib.ListN.{length-set}
 use Rattle.code_table.proofs.Slots.{three-sets}

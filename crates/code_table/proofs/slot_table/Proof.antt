@@ -1,7 +1,10 @@
+-- `slot_table` meets its contract: least and greatest bucket say how many slots there are, and all codes are placed between them.
+-- Assumes nothing.
 use mathlib.Core.Logic.{inl, inr}
 use lib.ListN.{length}
 use native.Mathlib.Omega.{arith}
 use Rattle.code_table.specs.Slots.{tableOf}
+use Rattle.code_table.specs.Steps.{slotWords}
 use Rattle.code_table.proofs.Slots.{after-done, after-full}
 use borrow.Author.Needs.{needs}
 use native.Mathlib.Omega.{arith}
@@ -28,12 +31,15 @@ returns c = λ cs T. inl (omega (arith, c .before .minus .ensures, c .before .be
 
 place-all-requires : tie.Need-place-all-requires
 place-all-requires c κs =
-    let C = c .before .before .before .before .before .before .before .before .before .pre .coded in
-    let b = c .before .before .before .before .before .least .ensures (C .codes) (C .triples) in
+    let at-minus = c .before .before .before in
+    let at-least = at-minus .before .before in
+    let at-entry = at-least .before .before .before .before in
+    let C = at-entry .pre .coded in
+    let b = at-least .least .ensures (C .codes) (C .triples) in
     record {
-      cleared = c .before .before .before .before .before .before .before .before .before .pre;
+      cleared = at-entry .pre;
       least = b;
-      enough = omega (arith, c .before .before .before .minus .ensures, c .before .before .before .before .greatest .ensures (C .codes) (C .triples));
+      enough = omega (arith, at-minus .minus .ensures, at-minus .before .greatest .ensures (C .codes) (C .triples));
     }
 
 enum-told : tie.Need-enum-told
@@ -50,11 +56,14 @@ same-length-2 c = search needs
 
 returns-2 : tie.Need-returns-2
 returns-2 c = λ cs T.
-    let a = c .before .before .before .before .before .before .before .before .before .before .before .before .before .before .before .before .args in
-    let p = c .before .before .before .before .before .before .place-all in
-    let b = c .before .before .before .before .before .before .before .before .before .before .before .before .least .ensures cs T in
-    inr (after-full (length (a .slots .now)) (length (a .shares .now)) (tableOf cs) (p .result) (p .last .1 .1 .1 .0) (p .last .1 .1 .1 .1 .0) (c .enum-told .given .1)
-    (p .ensures cs T b (omega (arith, c .before .before .before .before .before .before .before .before .before .before .minus .ensures, c .before .before .before .before .before .before .before .before .before .before .before .greatest .ensures cs T))))
+    let at-placed = c .before .before .before .before .before .before in
+    let at-minus = at-placed .before .before .before .before in
+    let at-least = at-minus .before .before in
+    let a = at-least .before .before .before .before .args in
+    let p = at-placed .place-all in
+    let b = at-least .least .ensures cs T in
+    inr (after-full (length (a .slots .now)) (length (a .shares .now)) (tableOf cs) (p .result) (slotWords (p .last .1 .1 .1 .0) (p .last .1 .1 .1 .1 .0)) (c .enum-told .given .1)
+    (p .ensures cs T b (omega (arith, at-minus .minus .ensures, at-minus .before .greatest .ensures cs T))))
 
 same-length-3 : tie.Need-same-length-3
 same-length-3 c = search needs
@@ -64,10 +73,12 @@ same-length-4 c = search needs
 
 returns-3 : tie.Need-returns-3
 returns-3 c = λ cs T.
-    let p = c .before .before .before .before .before .before .before .place-all in
-    let b = c .before .before .before .before .before .before .before .before .before .before .before .before .before .least .ensures cs T in
-    let t = c .before .before .before .before .before .before .before .before .before .before .before .before .greatest .ensures cs T in
-    let m = c .before .before .before .before .before .before .before .before .before .before .before .minus .ensures in
+    let at-placed = c .before .before .before .before .before .before .before in
+    let at-minus = at-placed .before .before .before .before in
+    let p = at-placed .place-all in
+    let b = at-minus .before .before .least .ensures cs T in
+    let t = at-minus .before .greatest .ensures cs T in
+    let m = at-minus .minus .ensures in
     record { base = b; top = t; enough = omega arith; held = after-done _ (c .before .used .given .1) (p .ensures cs T b (omega arith)) }
 
 pub slot-table-spec : {M : Type 1} → statement M

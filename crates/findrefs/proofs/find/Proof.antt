@@ -1,8 +1,7 @@
--- `findrefs::find` meets its contract: build, search and what is kept follow one another as the outcome has it, and the promise follows
--- from what is given. Assumes nothing.
+-- `findrefs::find` meets its contract: where the build refuses the other slices are cleared, and else the search follows it as the outcome has it;
+-- the promise follows from what is given. Assumes nothing.
 use native.Mathlib.Omega.{arith}
-use mathlib.Core.Path.{refl}
-use Rattle.findrefs.proofs.Laws.{find-gives}
+use Rattle.findrefs.proofs.Laws.{find-unbuilt, find-built}
 use Rattle.findrefs.proofs.Promised.{both}
 use borrow.Author.Needs.{needs}
 use Rattle.findrefs.proofs.find.Statement.{statement}
@@ -11,14 +10,20 @@ use Rattle.findrefs.proofs.find.Tie as tie
 parse-requires : tie.Need-parse-requires
 parse-requires c κs = search needs
 
-search-built-requires : tie.Need-search-built-requires
-search-built-requires c κs = search needs
+enum-known-r : tie.Need-enum-known-r
+enum-known-r c = search needs
 
-keep-requires : tie.Need-keep-requires
-keep-requires c κs = search needs
+clear-four-requires : tie.Need-clear-four-requires
+clear-four-requires c κs = search needs
+
+enum-known-region : tie.Need-enum-known-region
+enum-known-region c = search needs
+
+found-in-requires : tie.Need-found-in-requires
+found-in-requires c κs = search needs
 
 same-length : tie.Need-same-length
-same-length c = omega (arith, c .before .before .before .before .before .before .before .starts2 .given, c .before .before .before .before .before .before .before .before .before .before .before .before .before .before .before .before .before .before .before .before .before .before .before .before .before .before .before .before .before .before .before .before .before .before .before .before .starts .given)
+same-length c = search needs
 
 same-length-2 : tie.Need-same-length-2
 same-length-2 c = search needs
@@ -42,15 +47,67 @@ same-length-8 : tie.Need-same-length-8
 same-length-8 c = search needs
 
 returns : tie.Need-returns
-returns c = both _ _ _ _ _ _ _ _ _ _ _ _ _ _ (find-gives _ _ _ _ _ _ _ _ _ _ _ _ _ _ _ _ _ _ _ _ _ _ _ _ (omega (arith, c .before .before .before .before .before .before .before .before .before .before .before .before .before .before .before .before .before .before .before .before .before .before .before .before .before .before .before .before .before .before .before .before .before .before .before .before .starts .given)) (omega (arith, c .before .before .before .before .before .before .before .before .before .before .before .before .before .before .before .before .before .before .before .before .before .before .before .before .before .before .before .before .before .before .before .before .before .before .triples .given)) (omega (arith, c .before .before .before .before .before .before .before .before .before .before .before .before .before .before .before .before .before .before .before .before .before .before .before .before .before .before .before .before .before .before .before .before .slots .given)) (omega (arith, c .before .before .before .before .before .before .before .before .before .before .before .before .before .before .before .before .before .before .before .before .before .before .before .before .before .before .before .before .before .before .shares .given)) refl refl refl refl (c .before .before .before .before .before .before .before .before .before .before .before .before .before .before .before .before .before .before .before .before .before .before .before .before .before .before .before .before .before .before .before .before .before .before .before .before .before .parse .ensures) (c .before .before .before .before .before .before .before .before .before .before .before .before .before .before .before .before .before .before .before .before .before .search-built .ensures) (c .before .before .before .before .before .before .before .before .keep .ensures))
+returns c =
+    let cleared = c .before .before .before .before .before .before .before .before in
+    let refused = cleared .before .before .before .before .before .before in
+    let built = refused .before .before .before .before .before .before .before .before .before .before in
+    both _ _ _ _ _ _ _ (find-unbuilt _ _ _ _ _ _ _ (refused .r .given .1) (built .parse .ensures) (cleared .clear-four .ensures))
+
+same-length-9 : tie.Need-same-length-9
+same-length-9 c =
+    let searched = c .before .before .before .before .before .before .before .before .before .before .before .before .before .before .before .before in
+    let built = searched .before .before .before .before .before .before .before .before .before .before .before .before .before in
+    omega (arith, c .before .before .before .before .before .before .before .before .before .before .before .before .before .before .before .starts2 .given, built .before .before .before .before .before .before .starts .given)
+
+same-length-10 : tie.Need-same-length-10
+same-length-10 c =
+    let searched = c .before .before .before .before .before .before .before .before .before .before .before .before .before .before .before .before in
+    let built = searched .before .before .before .before .before .before .before .before .before .before .before .before .before in
+    omega (arith, c .before .before .before .before .before .before .before .before .before .before .before .before .before .triples2 .given, built .before .before .before .before .triples .given)
+
+same-length-11 : tie.Need-same-length-11
+same-length-11 c = search needs
+
+same-length-12 : tie.Need-same-length-12
+same-length-12 c = search needs
+
+same-length-13 : tie.Need-same-length-13
+same-length-13 c = search needs
+
+same-length-14 : tie.Need-same-length-14
+same-length-14 c = search needs
+
+same-length-15 : tie.Need-same-length-15
+same-length-15 c = search needs
+
+same-length-16 : tie.Need-same-length-16
+same-length-16 c = search needs
+
+returns-2 : tie.Need-returns-2
+returns-2 c =
+    let searched = c .before .before .before .before .before .before .before .before .before .before .before .before .before .before .before .before in
+    let read = searched .before .before .before .before .before .before .before .before .before .before in
+    let kept = read .before .before .before in
+    let built = kept .before .before .before .before .before .before .before in
+    both _ _ _ _ _ _ _
+    (find-built _ _ _ _ _ _ _ _ _ _ (read .region .given .1) (built .parse .ensures) _ _
+    (record {
+      starts = omega (arith, kept .before .before .before .before .before .before .starts .given);
+      triples = omega (arith, kept .before .before .before .before .triples .given);
+      slots = omega (arith, kept .before .before .slots .given);
+      shares = omega (arith, kept .shares .given);
+    })
+    (searched .found-in .ensures))
 
 pub find-spec : {M : Type 1} → statement M
 find-spec =
     tie.close
     (tie.spec
     parse-requires
-    search-built-requires
-    keep-requires
+    enum-known-r
+    clear-four-requires
+    enum-known-region
+    found-in-requires
     same-length
     same-length-2
     same-length-3
@@ -59,4 +116,13 @@ find-spec =
     same-length-6
     same-length-7
     same-length-8
-    returns)
+    returns
+    same-length-9
+    same-length-10
+    same-length-11
+    same-length-12
+    same-length-13
+    same-length-14
+    same-length-15
+    same-length-16
+    returns-2)

@@ -41,7 +41,11 @@ same-length : tie.Need-same-length Inv-loop μ-loop
 same-length c = search needs
 
 returns : tie.Need-returns Inv-loop μ-loop
-returns c = word-full (c .before .before .before .before .before .before .before .before .loop .inv) (c .before .before .before .before .before .before .before .loop-test .taken) (c .before .before .before .before .before .before .if1 .taken) (c .before .before .before .before .insert .ensures) (c .enum-told .given .1)
+returns c =
+    let at-if1 = c .before .before .before .before .before .before in
+    let at-loop-test = at-if1 .before in
+    let at-loop = at-loop-test .before in
+    word-full (at-loop .loop .inv) (at-loop-test .loop-test .taken) (at-if1 .if1 .taken) (c .before .before .before .before .insert .ensures) (c .enum-told .given .1)
 
 add-x : tie.Need-add-x Inv-loop μ-loop
 add-x c = search needs

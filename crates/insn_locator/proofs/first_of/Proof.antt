@@ -1,3 +1,5 @@
+-- A slot word below the mark of a share is a method plus one; else its share is inside or not.
+-- Assumes nothing.
 use native.Mathlib.Omega.{arith}
 use Rattle.insn_locator.proofs.Tables.{first-single, first-outside, first-shared}
 use borrow.Author.Needs.{needs}

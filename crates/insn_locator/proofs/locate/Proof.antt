@@ -1,3 +1,5 @@
+-- The refusals come in their order, and the run starts from words that are zero.
+-- Assumes nothing.
 use Rattle.words.specs.Padded.{zeros}
 use lib.ListN.{take, drop, length-append, length-drop}
 use mathlib.Core.List.{_++_}
@@ -31,11 +33,20 @@ same-length-2 c = search needs
 
 returns : tie.Need-returns
 returns c =
-    let a = c .before .before .before .before .before .before .before .before .before .before .before .before .before .before .before .before .before .args in
+    let at-clear = c .before .before .before .before .before .before .before .before in
+    let start = at-clear .before .before .before .before .before .before .before .before .before in
+    let a = start .args in
+    let T = tables (a .base) (a .slots .now) (a .starts .now) (a .shares .now) in
     record {
-      answer = gives-refused _ (a .answers .now) _ FileTooLarge (locate-long (a .file .now) (tables (a .base) (a .slots .now) (a .starts .now) (a .shares .now)) (a .entries .now) (length (a .answers .now)) (length (a .further .now)) (met (c .before .too-large .ensures) (c .if1 .taken))) (c .before .before .before .before .clear2 .ensures);
-      further = c .before .before .before .before .before .before .before .before .clear .ensures;
+      answer =
+          gives-refused _ (a .answers .now) _ FileTooLarge
+          (locate-long (a .file .now) T (a .entries .now) (length (a .answers .now)) (length (a .further .now))
+          (met (c .before .too-large .ensures) (c .if1 .taken))) (c .before .before .before .before .clear2 .ensures);
+      further = at-clear .clear .ensures;
     }
+
+count-requires : tie.Need-count-requires
+count-requires c κs = search needs
 
 same-length-3 : tie.Need-same-length-3
 same-length-3 c = search needs
@@ -45,10 +56,18 @@ same-length-4 c = search needs
 
 returns-2 : tie.Need-returns-2
 returns-2 c =
-    let a = c .before .before .before .before .before .before .before .before .before .before .before .before .before .before .before .before .before .before .args in
+    let at-clear2 = c .before .before .before .before .before .before in
+    let at-clear = at-clear2 .before .before .before .before in
+    let start = at-clear .before .before .before .before .before .before .before .before .before in
+    let a = start .args in
+    let T = tables (a .base) (a .slots .now) (a .starts .now) (a .shares .now) in
     record {
-      answer = gives-refused _ (a .answers .now) _ LentTooShort (locate-room (a .file .now) (tables (a .base) (a .slots .now) (a .starts .now) (a .shares .now)) (a .entries .now) (length (a .answers .now)) (length (a .further .now)) (met (c .before .before .too-large .ensures) (c .before .if1 .left)) (omega (arith, c .before .before .before .before .before .clear2 .kept .0))) (c .before .before .before .before .before .clear2 .ensures);
-      further = c .before .before .before .before .before .before .before .before .before .clear .ensures;
+      answer =
+          gives-refused _ (a .answers .now) _ LentTooShort
+          (locate-room (a .file .now) T (a .entries .now) (length (a .answers .now)) (length (a .further .now))
+          (met (c .before .before .before .too-large .ensures) (c .before .before .if1 .left)) (omega (arith, at-clear2 .clear2 .kept .0)))
+          (at-clear2 .clear2 .ensures);
+      further = at-clear .clear .ensures;
     }
 
 same-length-5 : tie.Need-same-length-5
@@ -59,17 +78,27 @@ same-length-6 c = search needs
 
 returns-3 : tie.Need-returns-3
 returns-3 c =
-    let a = c .before .before .before .before .before .before .before .before .before .before .before .before .before .before .before .before .before .before .before .args in
+    let at-clear2 = c .before .before .before .before .before .before .before in
+    let at-clear = at-clear2 .before .before .before .before in
+    let start = at-clear .before .before .before .before .before .before .before .before .before in
+    let a = start .args in
+    let T = tables (a .base) (a .slots .now) (a .starts .now) (a .shares .now) in
     record {
-      answer = gives-refused _ (a .answers .now) _ LentTooShort (locate-further (a .file .now) (tables (a .base) (a .slots .now) (a .starts .now) (a .shares .now)) (a .entries .now) (length (a .answers .now)) (length (a .further .now)) (met (c .before .before .before .too-large .ensures) (c .before .before .if1 .left)) (omega (arith, c .before .before .before .before .before .before .clear2 .kept .0)) (omega (arith, c .before .before .before .before .before .before .before .before .before .before .clear .kept .0))) (c .before .before .before .before .before .before .clear2 .ensures);
-      further = c .before .before .before .before .before .before .before .before .before .before .clear .ensures;
+      answer =
+          gives-refused _ (a .answers .now) _ LentTooShort
+          (locate-further (a .file .now) T (a .entries .now) (length (a .answers .now)) (length (a .further .now))
+          (met (c .before .before .before .before .too-large .ensures) (c .before .before .before .if1 .left)) (omega (arith, at-clear2 .clear2 .kept .0))
+          (omega (arith, at-clear .clear .kept .0, c .before .before .count .ensures))) (at-clear2 .clear2 .ensures);
+      further = at-clear .clear .ensures;
     }
 
 slice-relend-prefix-locate-list : tie.Need-slice-relend-prefix-locate-list
 slice-relend-prefix-locate-list c = search needs
 
 slice-aggregate-locate-list : tie.Need-slice-aggregate-locate-list
-slice-aggregate-locate-list c = simp length-take (omega (arith, c .before .before .before .before .before .before .before .before .before .before .before .clear .kept .0))
+slice-aggregate-locate-list c =
+    let at-clear = c .before .before .before .before .before .before .before .before .before .before .before .before in
+    simp length-take (omega (arith, at-clear .clear .kept .0))
 
 locate-list-requires : tie.Need-locate-list-requires
 locate-list-requires c κs = search needs
@@ -85,18 +114,30 @@ same-length-8 c = search needs
 
 returns-4 : tie.Need-returns-4
 returns-4 c =
-    let a = c .before .before .before .before .before .before .before .before .before .before .before .before .before .before .before .before .before .before .before .before .before .before .before .before .before .before .before .before .before .before .before .args in
-    let n = length (a .starts .now) in
-    let run = c .before .before .before .before .before .before .before .before .before .locate-list in
-    let cleared = c .before .before .before .before .before .before .before .before .before .before .before .before .before .before .before .before .before .before .clear2 in
-    let unset = c .before .before .before .before .before .before .before .before .before .before .before .before .before .before .before .before .before .before .before .before .before .before .clear in
-    let fits = met (c .before .before .before .before .before .before .before .before .before .before .before .before .before .before .before .too-large .ensures) (c .before .before .before .before .before .before .before .before .before .before .before .before .before .before .if1 .left) in
-    let room : length (a .entries .now) ≤ length (a .answers .now) = omega (arith, cleared .kept .0) in
-    let known : n ≤ length (a .further .now) = omega (arith, unset .kept .0) in
-    let none-yet = ap (take n) (unset .ensures) ∙ take-zeros n (length (a .further .now)) known in
+    let at-locate-list = c .before .before .before .before .before .before .before .before .before in
+    let at-if3 = at-locate-list .before .before .before in
+    let at-if2 = at-if3 .before in
+    let at-count = at-if2 .before in
+    let at-if1 = at-count .before in
+    let at-too-large = at-if1 .before in
+    let at-clear2 = at-too-large .before .before .before in
+    let at-clear = at-clear2 .before .before .before .before in
+    let start = at-clear .before .before .before .before .before .before .before .before .before in
+    let a = start .args in
+    let T = tables (a .base) (a .slots .now) (a .starts .now) (a .shares .now) in
+    let n = at-count .count .result in
+    let same : n ≡ length (a .starts .now) = at-count .count .ensures in
+    let run = at-locate-list .locate-list in
+    let cleared = at-clear2 .clear2 in
+    let unset = at-clear .clear in
+    let fits = met (at-too-large .too-large .ensures) (at-if1 .if1 .left) in
+    let room : length (a .entries .now) ≤ length (a .answers .now) = omega (arith, at-if2 .if2 .left, cleared .kept .0) in
+    let known : n ≤ length (a .further .now) = omega (arith, at-if3 .if3 .left, unset .kept .0) in
+    let none-yet = ap (take n) (unset .ensures) ∙ take-zeros n (length (a .further .now)) known ∙ ap zeros same in
     let whole : length (run .last .1 .1 .1 .1 .1 .1 .0 ++ drop n (unset .last .0)) ≡ length (a .further .now) =
     simp (length-append, length-drop) (omega (arith, run .kept, unset .kept .0, length-take n (unset .last .0))) in
-    let ran = locate-done (a .file .now) (tables (a .base) (a .slots .now) (a .starts .now) (a .shares .now)) (a .entries .now) (length (a .answers .now)) (length (a .further .now)) fits room known _ none-yet (cleared .last .0) _ (cleared .ensures) (rw (c .if4 .taken) at (run .ensures)) in
+    let ran = locate-done (a .file .now) T (a .entries .now) (length (a .answers .now)) (length (a .further .now)) fits room (omega arith) _ none-yet
+    (cleared .last .0) _ (cleared .ensures) (rw (c .if4 .taken) at (run .ensures)) in
     record {
       answer = gives-done _ (a .answers .now) _ (length (a .entries .now)) (ran .list) (ran .outcome) (ran .count) (ran .words);
       further = c .before .before .before .clear3 .ensures ∙ ap zeros whole;
@@ -113,22 +154,35 @@ same-length-10 c = search needs
 
 returns-5 : tie.Need-returns-5
 returns-5 c =
-    let a = c .before .before .before .before .before .before .before .before .before .before .before .before .before .before .before .before .before .before .before .before .before .before .before .before .before .before .before .before .before .before .before .before .before .before .before .args in
-    let n = length (a .starts .now) in
-    let run = c .before .before .before .before .before .before .before .before .before .before .before .before .before .locate-list in
-    let cleared = c .before .before .before .before .before .before .before .before .before .before .before .before .before .before .before .before .before .before .before .before .before .before .clear2 in
-    let unset = c .before .before .before .before .before .before .before .before .before .before .before .before .before .before .before .before .before .before .before .before .before .before .before .before .before .before .clear in
-    let fits = met (c .before .before .before .before .before .before .before .before .before .before .before .before .before .before .before .before .before .before .before .too-large .ensures) (c .before .before .before .before .before .before .before .before .before .before .before .before .before .before .before .before .before .before .if1 .left) in
-    let room : length (a .entries .now) ≤ length (a .answers .now) = omega (arith, cleared .kept .0) in
-    let known : n ≤ length (a .further .now) = omega (arith, unset .kept .0) in
-    let none-yet = ap (take n) (unset .ensures) ∙ take-zeros n (length (a .further .now)) known in
+    let at-clear3 = c .before .before .before .before .before .before .before in
+    let at-locate-list = at-clear3 .before .before .before .before .before .before in
+    let at-if3 = at-locate-list .before .before .before in
+    let at-if2 = at-if3 .before in
+    let at-count = at-if2 .before in
+    let at-if1 = at-count .before in
+    let at-too-large = at-if1 .before in
+    let at-clear2 = at-too-large .before .before .before in
+    let at-clear = at-clear2 .before .before .before .before in
+    let start = at-clear .before .before .before .before .before .before .before .before .before in
+    let a = start .args in
+    let T = tables (a .base) (a .slots .now) (a .starts .now) (a .shares .now) in
+    let n = at-count .count .result in
+    let same : n ≡ length (a .starts .now) = at-count .count .ensures in
+    let run = at-locate-list .locate-list in
+    let cleared = at-clear2 .clear2 in
+    let unset = at-clear .clear in
+    let fits = met (at-too-large .too-large .ensures) (at-if1 .if1 .left) in
+    let room : length (a .entries .now) ≤ length (a .answers .now) = omega (arith, at-if2 .if2 .left, cleared .kept .0) in
+    let known : n ≤ length (a .further .now) = omega (arith, at-if3 .if3 .left, unset .kept .0) in
+    let none-yet = ap (take n) (unset .ensures) ∙ take-zeros n (length (a .further .now)) known ∙ ap zeros same in
     let whole : length (run .last .1 .1 .1 .1 .1 .1 .0 ++ drop n (unset .last .0)) ≡ length (a .further .now) =
     simp (length-append, length-drop) (omega (arith, run .kept, unset .kept .0, length-take n (unset .last .0))) in
-    let fault = locate-fault (a .file .now) (tables (a .base) (a .slots .now) (a .starts .now) (a .shares .now)) (a .entries .now) (length (a .answers .now)) (length (a .further .now)) fits room known _ none-yet (cleared .last .0) (rw (c .before .before .before .before .if4 .left) at (run .ensures)) in
+    let fault = locate-fault (a .file .now) T (a .entries .now) (length (a .answers .now)) (length (a .further .now)) fits room (omega arith) _ none-yet
+    (cleared .last .0) (rw (c .before .before .before .before .if4 .left) at (run .ensures)) in
     let all : length (run .last .1 .1 .1 .1 .1 .1 .1 .0) ≡ length (a .answers .now) = omega (arith, run .kept, cleared .kept .0) in
     record {
       answer = gives-refused _ (a .answers .now) _ LentTable fault (c .before .before .clear4 .ensures ∙ ap zeros all);
-      further = c .before .before .before .before .before .before .before .clear3 .ensures ∙ ap zeros whole;
+      further = at-clear3 .clear3 .ensures ∙ ap zeros whole;
     }
 
 pub locate-spec : {M : Type 1} → statement M
@@ -141,6 +195,7 @@ locate-spec =
     same-length
     same-length-2
     returns
+    count-requires
     same-length-3
     same-length-4
     returns-2

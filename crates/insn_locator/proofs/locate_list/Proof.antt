@@ -1,5 +1,8 @@
+-- The answers stored and those of the entries left make up the whole, at every turn.
+-- Assumes nothing.
 use Rattle.insn_locator.proofs.Entries.{rest, rest-fault, rest-answer, rest-end}
-use Rattle.insn_locator.specs.Answers.{tables, stored}
+use Rattle.insn_locator.specs.Answers.{tables}
+use Rattle.insn_locator.specs.Steps.{stored}
 use Rattle.insn_locator.specs.Locate.{locateFrom}
 use lib.ListN.{length}
 use mathlib.Core.Path.{_≡_, refl, _∙_}
@@ -11,7 +14,8 @@ use Rattle.insn_locator.proofs.locate_list.Tie as tie
 
 abbrev Inv-loop : tie.InvT-loop
 Inv-loop buf base slots starts shares entries last₀ answers₀ i₀ last answers i =
-    (stored answers i (rest buf (tables base slots starts shares) entries i last) ≡ stored answers₀ 0 (locateFrom buf (tables base slots starts shares) last₀ entries))
+    (stored answers i (rest buf (tables base slots starts shares) entries i last) ≡ stored answers₀ 0
+    (locateFrom buf (tables base slots starts shares) last₀ entries))
     × (i ≤ length entries) × (length last ≡ length last₀) × (length answers ≡ length answers₀)
 
 abbrev μ-loop : tie.MeasureT-loop
@@ -43,9 +47,14 @@ same-length-2 c = search needs
 
 returns : tie.Need-returns Inv-loop μ-loop
 returns c =
-    let a = c .before .before .before .before .before .before .before .before .before .before .before .before .before .before .before .before .args in
-    let k = c .before .before .before .before .before .before .before .before .loop in
-    rest-fault (a .buf .now) (tables (a .base) (a .slots .now) (a .starts .now) (a .shares .now)) (a .entries .now) (k .i) (k .last) (k .answers) (c .before .before .before .before .before .before .before .loop-test .taken) (rw (c .enum-told .given .1) at (c .before .before .before .before .locate-one .ensures)) ∙ k .inv .0
+    let at-loop-test = c .before .before .before .before .before .before .before in
+    let at-loop = at-loop-test .before in
+    let start = at-loop .before .before .before .before .before .before .before .before in
+    let a = start .args in
+    let T = tables (a .base) (a .slots .now) (a .starts .now) (a .shares .now) in
+    let k = at-loop .loop in
+    rest-fault (a .buf .now) T (a .entries .now) (k .i) (k .last) (k .answers) (at-loop-test .loop-test .taken)
+    (rw (c .enum-told .given .1) at (c .before .before .before .before .locate-one .ensures)) ∙ k .inv .0
 
 put-requires : tie.Need-put-requires Inv-loop μ-loop
 put-requires c κs = search needs
@@ -58,12 +67,20 @@ loop-less c = search needs
 
 loop-again : tie.Need-loop-again Inv-loop μ-loop
 loop-again c =
-    let a = c .before .before .before .before .before .before .before .before .before .before .before .before .before .before .before .before .before .before .before .before .before .args in
-    let k = c .before .before .before .before .before .before .before .before .before .before .before .before .before .loop in (
-      rest-answer (a .buf .now) (tables (a .base) (a .slots .now) (a .starts .now) (a .shares .now)) (a .entries .now) (k .i) (k .last) (k .answers) (c .before .before .before .before .before .before .before .before .before .before .before .before .loop-test .taken) (c .before .before .before .before .before .word .given .0 .0) _ _ (c .before .before .put .ensures) (rw (c .before .before .before .before .before .word .given .1) at (c .before .before .before .before .before .before .before .before .before .locate-one .ensures)) ∙ k .inv .0,
+    let at-put = c .before .before in
+    let at-word = at-put .before .before .before in
+    let at-locate-one = at-word .before .before .before .before in
+    let at-loop-test = at-locate-one .before .before .before in
+    let at-loop = at-loop-test .before in
+    let start = at-loop .before .before .before .before .before .before .before .before in
+    let a = start .args in
+    let T = tables (a .base) (a .slots .now) (a .starts .now) (a .shares .now) in
+    let k = at-loop .loop in (
+      rest-answer (a .buf .now) T (a .entries .now) (k .i) (k .last) (k .answers) (at-loop-test .loop-test .taken) (at-word .word .given .0 .0) _ _
+          (at-put .put .ensures) (rw (at-word .word .given .1) at (at-locate-one .locate-one .ensures)) ∙ k .inv .0,
       omega arith,
-      omega (arith, c .before .before .before .before .before .before .before .before .before .locate-one .kept),
-      omega (arith, c .before .before .put .kept),
+      omega (arith, at-locate-one .locate-one .kept),
+      omega (arith, at-put .put .kept),
     )
 
 same-length-3 : tie.Need-same-length-3 Inv-loop μ-loop
@@ -74,9 +91,11 @@ same-length-4 c = search needs
 
 returns-2 : tie.Need-returns-2 Inv-loop μ-loop
 returns-2 c =
-    let a = c .before .before .before .before .before .before .before .before .before .args in
+    let start = c .before .before .before .before .before .before .before .before .before in
+    let a = start .args in
+    let T = tables (a .base) (a .slots .now) (a .starts .now) (a .shares .now) in
     let k = c .before .loop in
-    rest-end (a .buf .now) (tables (a .base) (a .slots .now) (a .starts .now) (a .shares .now)) (a .entries .now) (k .i) (k .last) (k .answers) (c .loop-test .left) ∙ k .inv .0
+    rest-end (a .buf .now) T (a .entries .now) (k .i) (k .last) (k .answers) (c .loop-test .left) ∙ k .inv .0
 
 pub locate-list-spec : {M : Type 1} → statement M
 locate-list-spec =

@@ -1,5 +1,9 @@
+-- Each way out is one way that an entry is answered, or that a table does not hold what is needed.
+-- Assumes nothing.
 use Rattle.insn_locator.proofs.Tables.{entry-free, entry-missing, entry-unknown, entry-tried}
-use Rattle.insn_locator.specs.Answers.{tables, firstValue}
+use Rattle.insn_locator.specs.Answers.{tables}
+use Rattle.insn_locator.specs.Steps.{firstValue}
+use Rattle.words.proofs.Shared.{met}
 use native.Mathlib.Omega.{arith}
 use mathlib.Core.Path.{ap, sym, _∙_}
 use borrow.Author.Needs.{needs}
@@ -11,8 +15,10 @@ slot-at-requires c κs = search needs
 
 returns : tie.Need-returns
 returns c =
-    let a = c .before .before .before .before .before .before .before .args in
-    entry-free (a .buf .now) (tables (a .base) (a .slots .now) (a .starts .now) (a .shares .now)) (a .last .now) (a .off) _ (c .before .slot-at .ensures) (c .if1 .taken)
+    let start = c .before .before .before .before .before .before .before in
+    let a = start .args in
+    let T = tables (a .base) (a .slots .now) (a .starts .now) (a .shares .now) in
+    entry-free (a .buf .now) T (a .last .now) (a .off) _ (c .before .slot-at .ensures) (c .if1 .taken)
 
 first-of-requires : tie.Need-first-of-requires
 first-of-requires c κs = search needs
@@ -25,16 +31,17 @@ enum-told c = search needs
 
 returns-2 : tie.Need-returns-2
 returns-2 c =
-    let a = c .before .before .before .before .before .before .before .before .before .before .args in
-    entry-missing (a .buf .now) (tables (a .base) (a .slots .now) (a .starts .now) (a .shares .now)) (a .last .now) (a .off) _ (c .before .before .before .before .slot-at .ensures) (omega arith) (ap firstValue (sym (c .enum-told .given .1)) ∙ c .before .before .first-of .ensures)
+    let start = c .before .before .before .before .before .before .before .before .before .before in
+    let a = start .args in
+    let T = tables (a .base) (a .slots .now) (a .starts .now) (a .shares .now) in
+    entry-missing (a .buf .now) T (a .last .now) (a .off) _ (c .before .before .before .before .slot-at .ensures) (omega arith)
+    (ap firstValue (sym (c .enum-told .given .1)) ∙ c .before .before .first-of .ensures)
 
 cast-m : tie.Need-cast-m
 cast-m c = search needs
 
-returns-3 : tie.Need-returns-3
-returns-3 c =
-    let a = c .before .before .before .before .before .before .before .before .before .before .before .before .args in
-    entry-unknown (a .buf .now) (tables (a .base) (a .slots .now) (a .starts .now) (a .shares .now)) (a .last .now) (a .off) _ (c .before .before .before .before .before .before .slot-at .ensures) _ (omega arith) (ap firstValue (sym (c .before .before .first .given .1)) ∙ c .before .before .before .before .first-of .ensures) (omega arith)
+has-start-requires : tie.Need-has-start-requires
+has-start-requires c κs = search needs
 
 confirm-requires : tie.Need-confirm-requires
 confirm-requires c κs = search needs
@@ -42,10 +49,28 @@ confirm-requires c κs = search needs
 same-length : tie.Need-same-length
 same-length c = search needs
 
+returns-3 : tie.Need-returns-3
+returns-3 c =
+    let at-has-start = c .before .before .before .before .before in
+    let at-first = at-has-start .before .before in
+    let at-first-of = at-first .before .before in
+    let at-slot-at = at-first-of .before .before in
+    let start = at-slot-at .before .before .before .before .before .before in
+    let a = start .args in
+    let T = tables (a .base) (a .slots .now) (a .starts .now) (a .shares .now) in
+    entry-tried (a .buf .now) T (a .last .now) (a .off) _ (at-slot-at .slot-at .ensures) _ _ (omega arith)
+    (ap firstValue (sym (at-first .first .given .1)) ∙ at-first-of .first-of .ensures)
+    (met (at-has-start .has-start .ensures) (c .before .before .before .before .if2 .taken)) (c .before .before .confirm .ensures)
+
 returns-4 : tie.Need-returns-4
 returns-4 c =
-    let a = c .before .before .before .before .before .before .before .before .before .before .before .before .before .before .before .before .args in
-    entry-tried (a .buf .now) (tables (a .base) (a .slots .now) (a .starts .now) (a .shares .now)) (a .last .now) (a .off) _ (c .before .before .before .before .before .before .before .before .before .before .slot-at .ensures) _ _ (omega arith) (ap firstValue (sym (c .before .before .before .before .before .before .first .given .1)) ∙ c .before .before .before .before .before .before .before .before .first-of .ensures) (c .before .before .before .before .if2 .left) (c .before .before .confirm .ensures)
+    let at-slot-at = c .before .before .before .before .before .before .before in
+    let start = at-slot-at .before .before .before .before .before .before in
+    let a = start .args in
+    let T = tables (a .base) (a .slots .now) (a .starts .now) (a .shares .now) in
+    entry-unknown (a .buf .now) T (a .last .now) (a .off) _ (at-slot-at .slot-at .ensures) _ (omega arith)
+    (ap firstValue (sym (c .before .before .before .first .given .1)) ∙ c .before .before .before .before .before .first-of .ensures)
+    (met (c .before .has-start .ensures) (c .if2 .left))
 
 pub locate-one-spec : {M : Type 1} → statement M
 locate-one-spec =
@@ -58,7 +83,8 @@ locate-one-spec =
     enum-told
     returns-2
     cast-m
-    returns-3
+    has-start-requires
     confirm-requires
     same-length
+    returns-3
     returns-4)

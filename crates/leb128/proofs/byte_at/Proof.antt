@@ -1,3 +1,5 @@
+-- `byte_at` meets its contract: a byte of the file is below 256.
+-- Assumes nothing.
 use native.Mathlib.Omega.{arith}
 use borrow.Author.Needs.{needs}
 use Rattle.leb128.proofs.byte_at.Statement.{statement}

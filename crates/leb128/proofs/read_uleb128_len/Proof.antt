@@ -1,3 +1,5 @@
+-- `read_uleb128_len` meets its contract: the bytes passed and what is found from here make the length from the start.
+-- Assumes nothing.
 use Rattle.leb128.proofs.read_uleb128_len.Statement.{statement}
 use Rattle.leb128.proofs.read_uleb128_len.Tie as tie
 use borrow.Author.Needs.{needs}

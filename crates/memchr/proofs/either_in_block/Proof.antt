@@ -1,6 +1,7 @@
 -- `memchr::either_in_block` meets its contract: the test so far is 0 where none of the places below i counts, and only there.
 -- Assumes nothing.
-use Rattle.memchr.specs.First.{Either, Tested}
+use Rattle.memchr.specs.Steps.{Tested}
+use Rattle.memchr.specs.First.{Either}
 use Rattle.memchr.proofs.Firsts.{none-tested, one-tested}
 use Prim.Native.Nat.{_-_, _≤_}
 use mathlib.Core.Path.{_≡_}

@@ -1,6 +1,7 @@
 -- `memchr::memchr` meets its contract: the loop has passed nothing that counts.
 -- Assumes nothing.
-use Rattle.memchr.specs.First.{Either, Passed}
+use Rattle.memchr.specs.Steps.{Passed}
+use Rattle.memchr.specs.First.{Either}
 use Rattle.memchr.proofs.Firsts.{first-none, none-yet, part-first, part-passed}
 use mathlib.Core.Logic.{inl, inr}
 use mathlib.Core.Path.{refl}

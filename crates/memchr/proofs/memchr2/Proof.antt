@@ -34,7 +34,8 @@ first-either-requires c κs = search needs
 
 returns-3 : tie.Need-returns-3
 returns-3 c =
-    rw (← c .before .before .before .before .before .lesser .ensures)
+    let at-lesser = c .before .before .before .before .before in
+    rw (← at-lesser .lesser .ensures)
     (block-first (c .before .before .skip-either .ensures) (c .before .block-of .ensures) (c .first-either .ensures))
 
 pub memchr2-spec : {M : Type 1} → statement M

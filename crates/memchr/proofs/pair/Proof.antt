@@ -28,7 +28,8 @@ first-both-requires c κs = search needs
 
 returns-2 : tie.Need-returns-2
 returns-2 c =
-    rw (← c .before .before .before .before .before .lesser .ensures, ← c .before .before .before .before .minus .ensures)
+    let at-lesser = c .before .before .before .before .before in
+    rw (← at-lesser .lesser .ensures, ← c .before .before .before .before .minus .ensures)
     (block-first (c .before .before .skip-both .ensures) (c .before .block-of .ensures) (c .first-both .ensures))
 
 pub pair-spec : {M : Type 1} → statement M

@@ -1,6 +1,7 @@
 -- `memchr::plain_either` meets its contract: the loop has passed nothing that counts.
 -- Assumes nothing.
-use Rattle.memchr.specs.First.{Either, Passed}
+use Rattle.memchr.specs.Steps.{Passed}
+use Rattle.memchr.specs.First.{Either}
 use Rattle.memchr.proofs.Firsts.{none-yet, pass-one, passed-first, lane-is, lane-not}
 use Prim.Native.Nat.{_-_}
 use borrow.Author.Needs.{needs}

@@ -1,6 +1,7 @@
 -- `memchr::skip_both` meets its contract: the loop has passed nothing that counts.
 -- Assumes nothing.
-use Rattle.memchr.specs.First.{Both, Passed}
+use Rattle.memchr.specs.Steps.{Passed}
+use Rattle.memchr.specs.First.{Both}
 use Rattle.memchr.proofs.Firsts.{none-yet, pass-more}
 use mathlib.Core.Logic.{inl, inr}
 use Prim.Native.Nat.{_-_}

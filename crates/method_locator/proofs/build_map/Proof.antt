@@ -1,19 +1,14 @@
-use Prim.Native.Nat.{ℕ}
-use mathlib.Core.Path.{_≡_, ap, _∙_}
-use mathlib.Core.List.{List}
-use lib.ListN.{length}
-use Rattle.words.specs.Padded.{zeros}
-use Rattle.groups.specs.declared.Width.the-variants.{Two, Four}
-use Rattle.groups.proofs.Keys.{key-first, key-at}
-use Rattle.groups.proofs.Built.{by-key}
-use Rattle.method_locator.proofs.Both.{both-done, clz-refused, name-refused}
+-- Both builds are made; the first refusal counts, and clears everything.
+-- Assumes nothing.
 use borrow.Author.Needs.{needs}
 use Rattle.method_locator.proofs.build_map.Statement.{statement}
 use Rattle.method_locator.proofs.build_map.Tie as tie
-
--- lent to a build, and then cleared
-emptied : (xs ys zs : List ℕ) → length ys ≡ length xs → zs ≡ zeros (length ys) → zs ≡ zeros (length xs)
-emptied xs ys zs l e = e ∙ ap zeros l
+use mathlib.Core.Path.{ap, _∙_}
+use Rattle.words.specs.Padded.{zeros}
+use Rattle.groups.specs.declared.Width.the-variants.{Two, Four}
+use Rattle.groups.proofs.FileKeys.{key-first, key-at}
+use Rattle.groups.proofs.Built.{by-key}
+use Rattle.method_locator.proofs.Both.{both-done, clz-refused, name-refused}
 
 build-requires : tie.Need-build-requires
 build-requires c κs = search needs
@@ -24,11 +19,8 @@ build-requires-2 c κs = search needs
 enum-known-by-clz : tie.Need-enum-known-by-clz
 enum-known-by-clz c = search needs
 
-clear-requires : tie.Need-clear-requires
-clear-requires c κs = search needs
-
-clear-requires-2 : tie.Need-clear-requires-2
-clear-requires-2 c κs = search needs
+refuse-requires : tie.Need-refuse-requires
+refuse-requires c κs = search needs
 
 enum-known-by-clz-2 : tie.Need-enum-known-by-clz-2
 enum-known-by-clz-2 c = search needs
@@ -36,11 +28,8 @@ enum-known-by-clz-2 c = search needs
 enum-known-by-name : tie.Need-enum-known-by-name
 enum-known-by-name c = search needs
 
-clear-requires-3 : tie.Need-clear-requires-3
-clear-requires-3 c κs = search needs
-
-clear-requires-4 : tie.Need-clear-requires-4
-clear-requires-4 c κs = search needs
+refuse-requires-2 : tie.Need-refuse-requires-2
+refuse-requires-2 c κs = search needs
 
 enum-known-by-name-2 : tie.Need-enum-known-by-name-2
 enum-known-by-name-2 c = search needs
@@ -59,12 +48,17 @@ same-length-4 c = search needs
 
 returns : tie.Need-returns
 returns c =
-    let a = c .before .before .before .before .before .before .before .before .before .before .before .before .before .before .before .before .before .before .before .before .before .before .before .before .before .before .before .before .before .before .before .args in
-    let q = c .before .before .before .before .before .before .before .before .before .before .before .before .before .before .before .build2 in
-    clz-refused _ _ _ (q .result) _ _ _ _ _ _ _ _ _ (c .before .before .before .before .before .before .before .before .before .by-clz .given .1)
-    (by-key _ _ _ _ _ _ _ _ _ _ _ _ _ (key-first _ _ 8 Two) (c .before .before .before .before .before .before .before .before .before .before .before .before .before .before .before .before .before .before .before .before .before .before .build .ensures))
-    (emptied (a .name-offsets .now) (q .last .1 .1 .1 .1 .0) _ (q .kept .1 .1 .1 .1 .0) (c .before .before .before .before .before .before .clear .ensures))
-    (emptied (a .name-mids .now) (q .last .1 .1 .1 .1 .1 .0) _ (q .kept .1 .1 .1 .1 .1 .0) (c .before .before .clear2 .ensures))
+    let at-before′′ = c .before .before .before .before .before .before .before in
+    let at-by-clz = at-before′′ .before .before .before .before .before .before .before in
+    let at-before′ = at-by-clz .before .before .before .before .before in
+    let at-before = at-before′ .before .before .before .before .before .before .before in
+    let clz = at-before .before in
+    let name = at-before′ .before in
+    let told = at-before′′ .before in
+    let left = told .refuse .ensures in
+    rw (left .answer) (clz-refused _ _ _ (at-by-clz .by-clz .given .1) (by-key _ _ _ _ _ (key-first _ _ 8 Two) (clz .build .ensures))
+    (record { offs = left .clz-offs ∙ ap zeros (clz .build .kept .1 .1 .1 .1 .0); ids = left .clz-ids ∙ ap zeros (clz .build .kept .1 .1 .1 .1 .1 .0) })
+    (record { offs = left .name-offs ∙ ap zeros (name .build2 .kept .1 .1 .1 .1 .0); ids = left .name-ids ∙ ap zeros (name .build2 .kept .1 .1 .1 .1 .1 .0) }))
 
 same-length-5 : tie.Need-same-length-5
 same-length-5 c = search needs
@@ -80,13 +74,18 @@ same-length-8 c = search needs
 
 returns-2 : tie.Need-returns-2
 returns-2 c =
-    let a = c .before .before .before .before .before .before .before .before .before .before .before .before .before .before .before .before .before .before .before .before .before .before .before .before .before .before .before .before .before .before .before .before .before .before .args in
-    let p = c .before .before .before .before .before .before .before .before .before .before .before .before .before .before .before .before .before .before .before .before .before .before .before .before .before .build in
-    name-refused _ _ _ _ _ _ _ _ _ _ _ _ _ _ _ _ (c .before .before .before .before .before .before .before .before .before .before .before .before .by-clz2 .given .1) (c .before .before .before .before .before .before .before .before .before .by-name .given .1)
-    (by-key _ _ _ _ _ _ _ _ _ _ _ _ _ (key-first _ _ 8 Two) (c .before .before .before .before .before .before .before .before .before .before .before .before .before .before .before .before .before .before .before .before .before .before .before .before .before .build .ensures))
-    (by-key _ _ _ _ _ _ _ _ _ _ _ _ _ (key-at _ _ 8 4 Four) (c .before .before .before .before .before .before .before .before .before .before .before .before .before .before .before .before .before .before .build2 .ensures))
-    (emptied (a .clz-offsets .now) (p .last .1 .1 .1 .1 .0) _ (p .kept .1 .1 .1 .1 .0) (c .before .before .before .before .before .before .clear3 .ensures))
-    (emptied (a .clz-mids .now) (p .last .1 .1 .1 .1 .1 .0) _ (p .kept .1 .1 .1 .1 .1 .0) (c .before .before .clear4 .ensures))
+    let at-before′′ = c .before .before .before .before .before .before .before in
+    let at-by-name = at-before′′ .before .before .before .before .before .before .before in
+    let at-by-clz2 = at-by-name .before .before .before in
+    let at-before′ = at-by-clz2 .before .before .before .before .before in
+    let at-before = at-before′ .before .before .before .before .before .before .before in
+    let clz = at-before .before in
+    let name = at-before′ .before in
+    let told = at-before′′ .before in
+    let left = told .refuse2 .ensures in
+    rw (left .answer) (name-refused _ _ _ _ (at-by-clz2 .by-clz2 .given .1) (at-by-name .by-name .given .1) (by-key _ _ _ _ _ (key-first _ _ 8 Two) (clz .build .ensures)) (by-key _ _ _ _ _ (key-at _ _ 8 4 Four) (name .build2 .ensures))
+    (record { offs = left .clz-offs ∙ ap zeros (clz .build .kept .1 .1 .1 .1 .0); ids = left .clz-ids ∙ ap zeros (clz .build .kept .1 .1 .1 .1 .1 .0) })
+    (record { offs = left .name-offs ∙ ap zeros (name .build2 .kept .1 .1 .1 .1 .0); ids = left .name-ids ∙ ap zeros (name .build2 .kept .1 .1 .1 .1 .1 .0) }))
 
 same-length-9 : tie.Need-same-length-9
 same-length-9 c = search needs
@@ -102,9 +101,11 @@ same-length-12 c = search needs
 
 returns-3 : tie.Need-returns-3
 returns-3 c =
-    both-done _ _ _ _ _ _ _ _ _ _ _ _ _ _ (c .before .before .before .before .by-clz2 .given .1) (c .before .by-name2 .given .1)
-    (by-key _ _ _ _ _ _ _ _ _ _ _ _ _ (key-first _ _ 8 Two) (c .before .before .before .before .before .before .before .before .before .before .before .before .before .before .before .before .before .build .ensures))
-    (by-key _ _ _ _ _ _ _ _ _ _ _ _ _ (key-at _ _ 8 4 Four) (c .before .before .before .before .before .before .before .before .before .before .build2 .ensures))
+    let at-before′ = c .before .before .before .before .before .before .before .before .before in
+    let at-before = at-before′ .before .before .before .before .before .before .before in
+    let clz = at-before .before in
+    let name = at-before′ .before in
+    both-done _ _ _ _ (c .before .before .before .before .by-clz2 .given .1) (c .before .by-name2 .given .1) (by-key _ _ _ _ _ (key-first _ _ 8 Two) (clz .build .ensures)) (by-key _ _ _ _ _ (key-at _ _ 8 4 Four) (name .build2 .ensures))
 
 pub build-map-spec : {M : Type 1} → statement M
 build-map-spec =
@@ -113,12 +114,10 @@ build-map-spec =
     build-requires
     build-requires-2
     enum-known-by-clz
-    clear-requires
-    clear-requires-2
+    refuse-requires
     enum-known-by-clz-2
     enum-known-by-name
-    clear-requires-3
-    clear-requires-4
+    refuse-requires-2
     enum-known-by-name-2
     same-length
     same-length-2

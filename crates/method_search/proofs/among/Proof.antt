@@ -1,3 +1,5 @@
+-- A rising list tells by halving whether it has an index; nothing asked is met by any.
+-- Assumes nothing.
 use Rattle.method_search.proofs.Steps.{asked-among, not-asked}
 use borrow.Author.Needs.{needs}
 use Rattle.method_search.proofs.among.Statement.{statement}

@@ -1,6 +1,11 @@
+-- A fault is met before anything is searched for; else it is the search itself.
+-- Assumes nothing.
+use Rattle.groups.specs.Built.{groupWords}
+use Rattle.string_search.specs.Search.{area}
+use Rattle.method_search.specs.Methods.{query, searchFor}
 use Rattle.method_search.proofs.Exits.{exit-fault, searched-out}
-use Rattle.string_search.specs.Search.{faultNumber}
-use Rattle.rising.proofs.Found.{zeros-again, zeros-length}
+use Rattle.word_set.specs.Found.{faultNumber}
+use Rattle.word_set.proofs.Found.{zeros-again, zeros-length}
 use lib.ListN.{length}
 use mathlib.Core.Path.{ap, sym, _∙_}
 use borrow.Author.Needs.{needs}
@@ -33,15 +38,23 @@ same-length-3 c = search needs
 
 returns : tie.Need-returns
 returns c =
-    let a = c .before .before .before .before .before .before .before .before .before .before .before .before .before .before .before .before .before .before .before .before .before .before .before .before .before .before .args in
-    exit-fault (a .file .now) (a .header .methods) (a .keys .now) (a .start) (a .end) (a .class .now) (a .name .now) (a .str-offsets .now) (a .type-idxs .now) (a .strings .now) (a .types .now) (a .out .now) _ (c .before .before .before .before .before .before .before .before .before .before .before .before .before .before .before .clear .ensures) (c .before .before .before .before .before .before .before .before .before .fault .given .0 .0) (sym (ap faultNumber (c .before .before .before .before .before .before .before .before .before .fault .given .1)) ∙ c .before .before .before .before .before .before .before .before .before .before .before .method-fault .ensures) _ _ (c .before .before .before .before .before .before .clear2 .ensures) (c .before .before .clear3 .ensures)
+    let at-clear2 = c .before .before .before .before .before .before in
+    let at-fault = at-clear2 .before .before .before in
+    let at-method-fault = at-fault .before .before in
+    let at-clear = at-method-fault .before .before .before .before in
+    let start = at-clear .before .before .before .before .before .before .before .before .before .before .before in
+    let a = start .args in
+    exit-fault (searchFor (area (a .file .now) (a .keys .now) (a .start) (a .end)) (query (a .class .now) (a .name .now)) (groupWords (a .str-offsets .now) (a .type-idxs .now)) (a .header .methods)) (at-fault .fault .given .0 .0) (sym (ap faultNumber (at-fault .fault .given .1)) ∙ at-method-fault .method-fault .ensures) (at-clear2 .clear2 .ensures) (c .before .before .clear3 .ensures) (at-clear .clear .ensures)
 
 enum-told : tie.Need-enum-told
 enum-told c = search needs
 
 search-requires : tie.Need-search-requires
 search-requires c κs =
-    record { none = sym (ap faultNumber (c .before .before .before .enum-told .given .1)) ∙ c .before .before .before .before .before .method-fault .ensures; clear = zeros-again (length (c .before .before .before .before .before .before .before .before .before .before .before .before .before .before .before .before .before .before .before .before .args .out .now)) _ (c .before .before .before .before .before .before .before .before .before .clear .ensures) }
+    let at-method-fault = c .before .before .before .before .before in
+    let at-clear = at-method-fault .before .before .before .before in
+    let start = at-clear .before .before .before .before .before .before .before .before .before .before .before in
+    record { none = sym (ap faultNumber (c .before .before .before .enum-told .given .1)) ∙ at-method-fault .method-fault .ensures; clear = zeros-again (length (start .args .out .now)) _ (at-clear .clear .ensures) }
 
 same-length-4 : tie.Need-same-length-4
 same-length-4 c = search needs
@@ -54,7 +67,10 @@ same-length-6 c = search needs
 
 returns-2 : tie.Need-returns-2
 returns-2 c =
-    searched-out (c .before .before .before .before .before .before .before .before .before .before .before .before .before .before .before .before .before .before .before .before .before .before .before .before .before .before .before .args .out .now) (zeros-length _ _ (c .before .before .before .before .before .before .before .before .before .before .before .before .before .before .before .before .clear .ensures)) (c .before .before .before .before .before .before .search .ensures)
+    let at-search = c .before .before .before .before .before .before in
+    let at-clear = at-search .before .before .before .before .before .before .before .before .before .before in
+    let start = at-clear .before .before .before .before .before .before .before .before .before .before .before in
+    searched-out (start .args .out .now) (zeros-length _ _ (at-clear .clear .ensures)) (at-search .search .ensures)
 
 pub locate-spec : {M : Type 1} → statement M
 locate-spec =

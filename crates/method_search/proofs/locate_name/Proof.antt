@@ -1,7 +1,9 @@
+-- The empty name finds nothing; another has the faults of string search.
+-- Assumes nothing.
 use Rattle.method_search.proofs.Steps.{same-fault, found-fault}
 use Rattle.string_search.proofs.Listing.{owners-listed}
-use Rattle.string_search.specs.Search.{faultNumber}
-use Rattle.rising.proofs.Found.{found-refused, found-none}
+use Rattle.word_set.specs.Found.{faultNumber}
+use Rattle.word_set.proofs.Found.{found-refused, found-none}
 use mathlib.Core.Path.{ap, sym, _∙_}
 use native.Mathlib.Omega.{arith}
 use borrow.Author.Needs.{needs}
@@ -21,7 +23,9 @@ same-length : tie.Need-same-length
 same-length c = search needs
 
 returns : tie.Need-returns
-returns c = found-refused (owners-listed _ _ _ _ _) (c .before .fault .given .0 .0) _ (sym (ap faultNumber (c .before .fault .given .1)) ∙ c .before .before .before .search-fault .ensures) (c .before .before .before .before .before .before .clear .ensures)
+returns c =
+    let at-clear = c .before .before .before .before .before .before in
+    found-refused (owners-listed _ _) (c .before .fault .given .0 .0) _ (sym (ap faultNumber (c .before .fault .given .1)) ∙ c .before .before .before .search-fault .ensures) (at-clear .clear .ensures)
 
 enum-told : tie.Need-enum-told
 enum-told c = search needs
@@ -30,7 +34,10 @@ same-length-2 : tie.Need-same-length-2
 same-length-2 c = search needs
 
 returns-2 : tie.Need-returns-2
-returns-2 c = found-none (λ x o. omega (arith, o .asked, c .before .before .before .before .before .before .before .if1 .taken)) _ (sym (ap faultNumber (c .enum-told .given .1)) ∙ c .before .before .search-fault .ensures) (c .before .before .before .before .before .clear .ensures)
+returns-2 c =
+    let at-clear = c .before .before .before .before .before in
+    let at-if1 = at-clear .before .before in
+    found-none (λ x o. omega (arith, o .asked, at-if1 .if1 .taken)) _ (sym (ap faultNumber (c .enum-told .given .1)) ∙ c .before .before .search-fault .ensures) (at-clear .clear .ensures)
 
 locate-requires : tie.Need-locate-requires
 locate-requires c κs = search needs

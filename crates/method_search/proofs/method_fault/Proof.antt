@@ -1,5 +1,7 @@
+-- A law for each way out, in the order of the tests.
+-- Assumes nothing.
 use Rattle.method_search.proofs.Steps.{fault-search, fault-table, fault-nothing}
-use Rattle.string_search.specs.Search.{faultNumber}
+use Rattle.word_set.specs.Found.{faultNumber}
 use Rattle.words.proofs.Shared.{met}
 use mathlib.Core.Path.{ap, sym, _∙_}
 use borrow.Author.Needs.{needs}
@@ -25,10 +27,14 @@ passes-end-requires : tie.Need-passes-end-requires
 passes-end-requires c κs = search needs
 
 returns-2 : tie.Need-returns-2
-returns-2 c = fault-table _ _ _ _ _ _ (c .before .before .before .before .before .longer .ensures) (sym (ap faultNumber (c .before .before .enum-told .given .1)) ∙ c .before .before .before .before .search-fault .ensures) (met (c .before .passes-end .ensures) (c .if1 .taken))
+returns-2 c =
+    let at-longer = c .before .before .before .before .before in
+    fault-table _ _ _ _ _ _ (at-longer .longer .ensures) (sym (ap faultNumber (c .before .before .enum-told .given .1)) ∙ c .before .before .before .before .search-fault .ensures) (met (c .before .passes-end .ensures) (c .if1 .taken))
 
 returns-3 : tie.Need-returns-3
-returns-3 c = fault-nothing _ _ _ _ _ _ (c .before .before .before .before .before .longer .ensures) (sym (ap faultNumber (c .before .before .enum-told .given .1)) ∙ c .before .before .before .before .search-fault .ensures) (met (c .before .passes-end .ensures) (c .if1 .left))
+returns-3 c =
+    let at-longer = c .before .before .before .before .before in
+    fault-nothing _ _ _ _ _ _ (at-longer .longer .ensures) (sym (ap faultNumber (c .before .before .enum-told .given .1)) ∙ c .before .before .before .before .search-fault .ensures) (met (c .before .passes-end .ensures) (c .if1 .left))
 
 pub method-fault-spec : {M : Type 1} → statement M
 method-fault-spec =

@@ -1,4 +1,6 @@
-use Rattle.method_search.specs.Methods.{joined, passed}
+-- A method that fits is inserted, and another changes nothing.
+-- Assumes nothing.
+use Rattle.method_search.specs.Steps.{joined, passed}
 use mathlib.Core.Path.{refl}
 use borrow.Author.Needs.{needs}
 use Rattle.method_search.proofs.method_step.Statement.{statement}
@@ -14,7 +16,9 @@ same-length : tie.Need-same-length
 same-length c = search needs
 
 returns : tie.Need-returns
-returns c = joined (c .before .before .before .before .before .method-fits .ensures .yes (c .before .before .before .before .if1 .taken)) (c .before .before .insert .ensures)
+returns c =
+    let at-method-fits = c .before .before .before .before .before in
+    joined (at-method-fits .method-fits .ensures .yes (c .before .before .before .before .if1 .taken)) (c .before .before .insert .ensures)
 
 returns-2 : tie.Need-returns-2
 returns-2 c = passed (c .before .method-fits .ensures .no (c .if1 .left)) refl refl

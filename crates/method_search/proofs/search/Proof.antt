@@ -1,3 +1,8 @@
+-- A law for each way out: of the class, of the name, and of the methods that fit both.
+-- Assumes nothing.
+use Rattle.groups.specs.Built.{groupWords}
+use Rattle.string_search.specs.Search.{area}
+use Rattle.method_search.specs.Methods.{query, searchFor}
 use Rattle.method_search.proofs.Exits.{exit-class, exit-settled, exit-name, chosen, exit-select}
 use mathlib.Core.Path.{sym, _∙_}
 use native.Mathlib.Omega.{arith}
@@ -22,9 +27,11 @@ same-length-2 c = search needs
 
 returns : tie.Need-returns
 returns c =
-    let a = c .before .before .before .before .before .before .before .before .before .before .before .before .before .before .before .before .before .before .args in
-    let p = c .before .before .before .before .before .before .before .before .before .before .before .before .before .before .before .before .before .before .pre in
-    exit-class (a .file .now) (a .methods) (a .keys .now) (a .start) (a .end) (a .class .now) (a .name .now) (a .str-offsets .now) (a .type-idxs .now) (p .none) (c .before .before .before .before .before .before .locate .ensures) (c .enum-told .given .0 .0) (c .enum-told .given .1) _ (p .clear)
+    let at-locate = c .before .before .before .before .before .before in
+    let start = at-locate .before .before .before .before .before .before .before .before .before .before .before .before in
+    let a = start .args in
+    let p = start .pre in
+    exit-class (searchFor (area (a .file .now) (a .keys .now) (a .start) (a .end)) (query (a .class .now) (a .name .now)) (groupWords (a .str-offsets .now) (a .type-idxs .now)) (a .methods)) (p .none) (at-locate .locate .ensures) (c .enum-told .given .0 .0) (c .enum-told .given .1) _ (p .clear)
 
 settled-requires : tie.Need-settled-requires
 settled-requires c κs = search needs
@@ -37,9 +44,11 @@ same-length-4 c = search needs
 
 returns-2 : tie.Need-returns-2
 returns-2 c =
-    let a = c .before .before .before .before .before .before .before .before .before .before .before .before .before .before .before .before .before .before .before .before .before .args in
-    let p = c .before .before .before .before .before .before .before .before .before .before .before .before .before .before .before .before .before .before .before .before .before .pre in
-    exit-settled (a .file .now) (a .methods) (a .keys .now) (a .start) (a .end) (a .class .now) (a .name .now) (a .str-offsets .now) (a .type-idxs .now) (p .none) (c .before .before .before .before .before .before .before .before .before .locate .ensures) _ (c .before .before .before .t .given .1) (sym (c .before .settled .ensures) ∙ c .if1 .taken) _ (p .clear)
+    let at-locate = c .before .before .before .before .before .before .before .before .before in
+    let start = at-locate .before .before .before .before .before .before .before .before .before .before .before .before in
+    let a = start .args in
+    let p = start .pre in
+    exit-settled (searchFor (area (a .file .now) (a .keys .now) (a .start) (a .end)) (query (a .class .now) (a .name .now)) (groupWords (a .str-offsets .now) (a .type-idxs .now)) (a .methods)) (p .none) (at-locate .locate .ensures) _ (c .before .before .before .t .given .1) (sym (c .before .settled .ensures) ∙ c .if1 .taken) _ (p .clear)
 
 locate-name-requires : tie.Need-locate-name-requires
 locate-name-requires c κs = search needs
@@ -61,15 +70,27 @@ same-length-6 c = search needs
 
 returns-3 : tie.Need-returns-3
 returns-3 c =
-    let a = c .before .before .before .before .before .before .before .before .before .before .before .before .before .before .before .before .before .before .before .before .before .before .before .before .before .before .before .before .before .before .before .args in
-    let p = c .before .before .before .before .before .before .before .before .before .before .before .before .before .before .before .before .before .before .before .before .before .before .before .before .before .before .before .before .before .before .before .pre in
-    exit-name (a .file .now) (a .methods) (a .keys .now) (a .start) (a .end) (a .class .now) (a .name .now) (a .str-offsets .now) (a .type-idxs .now) (p .none) (c .before .before .before .before .before .before .before .before .before .before .before .before .before .before .before .before .before .before .before .locate .ensures) _ (c .before .before .before .before .before .before .before .before .before .before .before .before .before .t .given .1) (sym (c .before .before .before .before .before .before .before .before .before .before .before .settled .ensures) ∙ c .before .before .before .before .before .before .before .before .before .before .if1 .left) (c .before .before .before .before .before .before .before .before .locate-name .ensures) (c .before .before .before .before .enum-told2 .given .0 .0) (c .before .before .before .before .enum-told2 .given .1) _ (c .before .before .clear .ensures) (omega (arith, c .before .before .before .before .before .before .before .before .before .before .before .before .before .before .before .before .before .before .before .locate .kept)) _ (p .clear)
+    let at-locate-name = c .before .before .before .before .before .before .before .before in
+    let at-if1 = at-locate-name .before .before in
+    let at-settled = at-if1 .before in
+    let at-t = at-settled .before .before in
+    let at-locate = at-t .before .before .before .before .before .before in
+    let start = at-locate .before .before .before .before .before .before .before .before .before .before .before .before in
+    let a = start .args in
+    let p = start .pre in
+    exit-name (searchFor (area (a .file .now) (a .keys .now) (a .start) (a .end)) (query (a .class .now) (a .name .now)) (groupWords (a .str-offsets .now) (a .type-idxs .now)) (a .methods)) (p .none) (at-locate .locate .ensures) _ (at-t .t .given .1) (sym (at-settled .settled .ensures) ∙ at-if1 .if1 .left) (at-locate-name .locate-name .ensures) (c .before .before .before .before .enum-told2 .given .0 .0) (c .before .before .before .before .enum-told2 .given .1) _ (c .before .before .clear .ensures) (omega (arith, at-locate .locate .kept)) _ (p .clear)
 
 select-requires : tie.Need-select-requires
 select-requires c κs =
-    let a = c .before .before .before .before .before .before .before .before .before .before .before .before .before .before .before .before .before .before .before .before .before .before .before .before .before .before .before .before .before .before .before .args in
-    let p = c .before .before .before .before .before .before .before .before .before .before .before .before .before .before .before .before .before .before .before .before .before .before .before .before .before .before .before .before .before .before .before .pre in
-    chosen (a .file .now) (a .methods) (a .keys .now) (a .start) (a .end) (a .class .now) (a .name .now) (a .str-offsets .now) (a .type-idxs .now) (p .none) (c .before .before .before .before .before .before .before .before .before .before .before .before .before .before .before .before .before .before .before .locate .ensures) _ (c .before .before .before .before .before .before .before .before .before .before .before .before .before .t .given .1) (sym (c .before .before .before .before .before .before .before .before .before .before .before .settled .ensures) ∙ c .before .before .before .before .before .before .before .before .before .before .if1 .left) (c .before .before .before .before .before .before .before .before .locate-name .ensures) _ (c .before .before .before .before .n .given .1) _ (p .clear)
+    let at-locate-name = c .before .before .before .before .before .before .before .before in
+    let at-if1 = at-locate-name .before .before in
+    let at-settled = at-if1 .before in
+    let at-t = at-settled .before .before in
+    let at-locate = at-t .before .before .before .before .before .before in
+    let start = at-locate .before .before .before .before .before .before .before .before .before .before .before .before in
+    let a = start .args in
+    let p = start .pre in
+    chosen (searchFor (area (a .file .now) (a .keys .now) (a .start) (a .end)) (query (a .class .now) (a .name .now)) (groupWords (a .str-offsets .now) (a .type-idxs .now)) (a .methods)) (p .none) (at-locate .locate .ensures) _ (at-t .t .given .1) (sym (at-settled .settled .ensures) ∙ at-if1 .if1 .left) (at-locate-name .locate-name .ensures) _ (c .before .before .before .before .n .given .1) _ (p .clear)
 
 same-length-7 : tie.Need-same-length-7
 same-length-7 c = search needs
@@ -82,9 +103,17 @@ same-length-9 c = search needs
 
 returns-4 : tie.Need-returns-4
 returns-4 c =
-    let a = c .before .before .before .before .before .before .before .before .before .before .before .before .before .before .before .before .before .before .before .before .before .before .before .before .before .before .before .before .before .before .before .before .before .before .before .before .before .before .args in
-    let p = c .before .before .before .before .before .before .before .before .before .before .before .before .before .before .before .before .before .before .before .before .before .before .before .before .before .before .before .before .before .before .before .before .before .before .before .before .before .before .pre in
-    exit-select (a .file .now) (a .methods) (a .keys .now) (a .start) (a .end) (a .class .now) (a .name .now) (a .str-offsets .now) (a .type-idxs .now) (p .none) (c .before .before .before .before .before .before .before .before .before .before .before .before .before .before .before .before .before .before .before .before .before .before .before .before .before .before .locate .ensures) _ (c .before .before .before .before .before .before .before .before .before .before .before .before .before .before .before .before .before .before .before .before .t .given .1) (sym (c .before .before .before .before .before .before .before .before .before .before .before .before .before .before .before .before .before .before .settled .ensures) ∙ c .before .before .before .before .before .before .before .before .before .before .before .before .before .before .before .before .before .if1 .left) (c .before .before .before .before .before .before .before .before .before .before .before .before .before .before .before .locate-name .ensures) _ (c .before .before .before .before .before .before .before .before .before .before .before .n .given .1) (c .before .before .before .before .before .before .select .ensures) (omega (arith, c .before .before .before .before .before .before .before .before .before .before .before .before .before .before .before .before .before .before .before .before .before .before .before .before .before .before .locate .kept)) (omega (arith, c .before .before .before .before .before .before .before .before .before .before .before .before .before .before .before .locate-name .kept))
+    let at-select = c .before .before .before .before .before .before in
+    let at-n = at-select .before .before .before .before .before in
+    let at-locate-name = at-n .before .before .before .before in
+    let at-if1 = at-locate-name .before .before in
+    let at-settled = at-if1 .before in
+    let at-t = at-settled .before .before in
+    let at-locate = at-t .before .before .before .before .before .before in
+    let start = at-locate .before .before .before .before .before .before .before .before .before .before .before .before in
+    let a = start .args in
+    let p = start .pre in
+    exit-select (searchFor (area (a .file .now) (a .keys .now) (a .start) (a .end)) (query (a .class .now) (a .name .now)) (groupWords (a .str-offsets .now) (a .type-idxs .now)) (a .methods)) (p .none) (at-locate .locate .ensures) _ (at-t .t .given .1) (sym (at-settled .settled .ensures) ∙ at-if1 .if1 .left) (at-locate-name .locate-name .ensures) _ (at-n .n .given .1) (at-select .select .ensures) (omega (arith, at-locate .locate .kept)) (omega (arith, at-locate-name .locate-name .kept))
 
 pub search-spec : {M : Type 1} → statement M
 search-spec =

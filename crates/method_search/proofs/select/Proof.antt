@@ -1,5 +1,7 @@
+-- The methods that fit are collected before the words of types and strings are cleared.
+-- Assumes nothing.
 use Rattle.method_search.proofs.Fitting.{fitting-listed}
-use Rattle.rising.proofs.Found.{exit-short, exit-all}
+use Rattle.word_set.proofs.Found.{exit-short, exit-all}
 use lib.Seq.{length-take-le}
 use mathlib.Core.Path.{refl, sym}
 use native.Mathlib.Omega.{arith}
@@ -11,13 +13,17 @@ slice-reshare-prefix-collect : tie.Need-slice-reshare-prefix-collect
 slice-reshare-prefix-collect c = search needs
 
 slice-aggregate-collect : tie.Need-slice-aggregate-collect
-slice-aggregate-collect c = sym (length-take-le _ _ (c .before .before .before .before .before .pre .types-fit))
+slice-aggregate-collect c =
+    let start = c .before .before .before .before .before in
+    sym (length-take-le _ _ (start .pre .types-fit))
 
 slice-reshare-prefix-collect-2 : tie.Need-slice-reshare-prefix-collect-2
 slice-reshare-prefix-collect-2 c = search needs
 
 slice-aggregate-collect-2 : tie.Need-slice-aggregate-collect-2
-slice-aggregate-collect-2 c = sym (length-take-le _ _ (c .before .before .before .before .before .before .pre .names-fit))
+slice-aggregate-collect-2 c =
+    let start = c .before .before .before .before .before .before in
+    sym (length-take-le _ _ (start .pre .names-fit))
 
 collect-requires : tie.Need-collect-requires
 collect-requires c κs = search needs
@@ -48,11 +54,14 @@ same-length-3 c = search needs
 
 returns : tie.Need-returns
 returns c =
-    let m = c .before .before .before .before .before .before .before .before .before .before .before .before .before .before .before .before .collect in
+    let at-clear2 = c .before .before .before .before .before .before .before .before in
+    let at-clear = at-clear2 .before .before .before .before in
+    let at-collect = at-clear .before .before .before .before in
+    let m = at-collect .collect in
     record {
-      found = exit-short (m .ensures) 0 refl _ refl (fitting-listed _ _ _ _ _ _ _) _ (c .before .before .before .before .enum-told .given .1) (omega (arith, m .kept)) (c .before .before .clear3 .ensures);
-      types-cleared = c .before .before .before .before .before .before .before .before .before .before .before .before .clear .ensures;
-      names-cleared = c .before .before .before .before .before .before .before .before .clear2 .ensures;
+      found = exit-short (m .ensures) 0 refl _ refl (fitting-listed _ _) _ (c .before .before .before .before .enum-told .given .1) (omega (arith, m .kept)) (c .before .before .clear3 .ensures);
+      types-cleared = at-clear .clear .ensures;
+      names-cleared = at-clear2 .clear2 .ensures;
     }
 
 same-length-4 : tie.Need-same-length-4
@@ -66,10 +75,13 @@ same-length-6 c = search needs
 
 returns-2 : tie.Need-returns-2
 returns-2 c =
+    let at-clear2 = c .before .before .before .before .before in
+    let at-clear = at-clear2 .before .before .before .before in
+    let at-collect = at-clear .before .before .before .before in
     record {
-      found = exit-all (c .before .before .before .before .before .before .before .before .before .before .before .before .before .collect .ensures) 0 refl _ refl _ (c .before .found .given .1);
-      types-cleared = c .before .before .before .before .before .before .before .before .before .clear .ensures;
-      names-cleared = c .before .before .before .before .before .clear2 .ensures;
+      found = exit-all (at-collect .collect .ensures) 0 refl _ refl _ (c .before .found .given .1);
+      types-cleared = at-clear .clear .ensures;
+      names-cleared = at-clear2 .clear2 .ensures;
     }
 
 pub select-spec : {M : Type 1} → statement M

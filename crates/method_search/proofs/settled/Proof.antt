@@ -1,3 +1,5 @@
+-- A class that is absent settles nothing.
+-- Assumes nothing.
 use Rattle.method_search.proofs.Steps.{settles-given, settles-absent}
 use Rattle.method_search.proofs.settled.Statement.{statement}
 use Rattle.method_search.proofs.settled.Tie as tie

@@ -3,9 +3,9 @@
 use mathlib.Core.Path.{ap, sym, _∙_}
 use lib.ListN.{length}
 use native.Mathlib.Omega.{arith}
-use Rattle.string_search.specs.Search.{faultNumber}
-use Rattle.rising.proofs.Found.{found-refused, zeros-again, zeros-length}
-use Rattle.name_faults.proofs.Faults.{no-fault, ids-known, filter-head}
+use Rattle.word_set.specs.Found.{faultNumber}
+use Rattle.word_set.proofs.Found.{found-refused, zeros-again, zeros-length}
+use Rattle.name_filter.proofs.Faults.{no-fault, ids-known, filter-head}
 use Rattle.name_filter.proofs.Listing.{named-listed}
 use Rattle.name_filter.proofs.Exits.{exit-done, exit-refused, as-refused}
 use borrow.Author.Needs.{needs}
@@ -25,7 +25,10 @@ same-length : tie.Need-same-length
 same-length c = search needs
 
 returns : tie.Need-returns
-returns c = as-refused (c .before .before .refuse .ensures) (found-refused (named-listed _ _ _ _) (c .before .before .before .before .before .fault .given .0 .0) _ (filter-head _ _ _ (c .before .before .before .before .before .fault .given .0 .0) (sym (ap faultNumber (c .before .before .before .before .before .fault .given .1)) ∙ c .before .before .before .before .before .before .before .head-fault .ensures)) (c .before .before .refuse .ensures .cleared))
+returns c =
+    let at-fault = c .before .before .before .before .before in
+    let at-head-fault = at-fault .before .before in
+    as-refused (c .before .before .refuse .ensures) (found-refused (named-listed _ _ _ _) (at-fault .fault .given .0 .0) _ (filter-head _ _ _ (at-fault .fault .given .0 .0) (sym (ap faultNumber (at-fault .fault .given .1)) ∙ at-head-fault .head-fault .ensures)) (c .before .before .refuse .ensures .cleared))
 
 enum-told : tie.Need-enum-told
 enum-told c = search needs
@@ -33,20 +36,23 @@ enum-told c = search needs
 clear-requires : tie.Need-clear-requires
 clear-requires c κs = search needs
 
-word-requires : tie.Need-word-requires
-word-requires c κs = omega (arith, no-fault _ _ (sym (ap faultNumber (c .before .before .before .before .enum-told .given .1)) ∙ c .before .before .before .before .before .before .head-fault .ensures) .header)
+u32-at-requires : tie.Need-u32-at-requires
+u32-at-requires c κs = search needs
 
-word-requires-2 : tie.Need-word-requires-2
-word-requires-2 c κs = omega (arith, no-fault _ _ (sym (ap faultNumber (c .before .before .before .before .before .enum-told .given .1)) ∙ c .before .before .before .before .before .before .before .head-fault .ensures) .header)
+u32-at-requires-2 : tie.Need-u32-at-requires-2
+u32-at-requires-2 c κs = search needs
 
 sift-all-requires : tie.Need-sift-all-requires
 sift-all-requires c κs =
-    let ok = no-fault _ _ (sym (ap faultNumber (c .before .before .before .before .before .before .before .enum-told .given .1)) ∙ c .before .before .before .before .before .before .before .before .before .head-fault .ensures) in
-    let ids = ids-known _ _ _ (c .before .before .word .ensures) (c .before .word2 .ensures) ok in
+    let at-clear = c .before .before .before .before .before in
+    let at-enum-told = at-clear .before .before in
+    let at-head-fault = at-enum-told .before .before in
+    let start = at-head-fault .before .before .before .before .before in
+    let ok = no-fault _ _ (sym (ap faultNumber (at-enum-told .enum-told .given .1)) ∙ at-head-fault .head-fault .ensures) in
+    let ids = ids-known _ _ _ (c .before .before .u32-at .ensures) (c .before .u32-at2 .ensures) ok in
     record {
-      ids = ids;
       few = omega (arith, ids, ok .small);
-      clear = zeros-again (length (c .before .before .before .before .before .before .before .before .before .before .before .before .before .before .args .out .now)) _ (c .before .before .before .before .before .clear .ensures);
+      clear = zeros-again (length (start .args .out .now)) _ (at-clear .clear .ensures);
     }
 
 enum-known-n : tie.Need-enum-known-n
@@ -62,13 +68,28 @@ same-length-2 : tie.Need-same-length-2
 same-length-2 c = search needs
 
 returns-2 : tie.Need-returns-2
-returns-2 c = exit-done _ _ _ _ _ (c .before .before .before .before .before .before .before .before .word .ensures) (c .before .before .before .before .before .before .before .word2 .ensures) (sym (ap faultNumber (c .before .before .before .before .before .before .before .before .before .before .before .before .before .enum-told .given .1)) ∙ c .before .before .before .before .before .before .before .before .before .before .before .before .before .before .before .head-fault .ensures) (c .before .before .before .before .before .sift-all .ensures) _ (zeros-length _ _ (c .before .before .before .before .before .before .before .before .before .before .before .clear .ensures)) _ (c .before .n .given .1)
+returns-2 c =
+    let at-sift-all = c .before .before .before .before .before in
+    let at-u32-at2 = at-sift-all .before .before in
+    let at-u32-at = at-u32-at2 .before in
+    let at-clear = at-u32-at .before .before .before in
+    let at-enum-told = at-clear .before .before in
+    let at-head-fault = at-enum-told .before .before in
+    exit-done _ _ _ _ _ (at-u32-at .u32-at .ensures) (at-u32-at2 .u32-at2 .ensures) (sym (ap faultNumber (at-enum-told .enum-told .given .1)) ∙ at-head-fault .head-fault .ensures) (at-sift-all .sift-all .ensures) _ (zeros-length _ _ (at-clear .clear .ensures)) _ (c .before .n .given .1)
 
 same-length-3 : tie.Need-same-length-3
 same-length-3 c = search needs
 
 returns-3 : tie.Need-returns-3
-returns-3 c = as-refused (c .before .before .refuse2 .ensures) (exit-refused _ _ _ _ _ (c .before .before .before .before .before .before .before .before .before .before .before .before .word .ensures) (c .before .before .before .before .before .before .before .before .before .before .before .word2 .ensures) (sym (ap faultNumber (c .before .before .before .before .before .before .before .before .before .before .before .before .before .before .before .before .before .enum-told .given .1)) ∙ c .before .before .before .before .before .before .before .before .before .before .before .before .before .before .before .before .before .before .before .head-fault .ensures) (c .before .before .before .before .before .before .before .before .before .sift-all .ensures) _ (zeros-length _ _ (c .before .before .before .before .before .before .before .before .before .before .before .before .before .before .before .clear .ensures)) (c .before .before .before .before .before .why .given .0 .0) (c .before .before .before .before .before .why .given .1) _ (omega (arith, c .before .before .before .before .before .before .before .before .before .sift-all .kept)) (c .before .before .refuse2 .ensures .cleared))
+returns-3 c =
+    let at-why = c .before .before .before .before .before in
+    let at-sift-all = at-why .before .before .before .before in
+    let at-u32-at2 = at-sift-all .before .before in
+    let at-u32-at = at-u32-at2 .before in
+    let at-clear = at-u32-at .before .before .before in
+    let at-enum-told = at-clear .before .before in
+    let at-head-fault = at-enum-told .before .before in
+    as-refused (c .before .before .refuse2 .ensures) (exit-refused _ _ _ _ _ (at-u32-at .u32-at .ensures) (at-u32-at2 .u32-at2 .ensures) (sym (ap faultNumber (at-enum-told .enum-told .given .1)) ∙ at-head-fault .head-fault .ensures) (at-sift-all .sift-all .ensures) _ (zeros-length _ _ (at-clear .clear .ensures)) (at-why .why .given .0 .0) (at-why .why .given .1) _ (omega (arith, at-sift-all .sift-all .kept)) (c .before .before .refuse2 .ensures .cleared))
 
 pub locate-name-indices-spec : {M : Type 1} → statement M
 locate-name-indices-spec =
@@ -81,8 +102,8 @@ locate-name-indices-spec =
     returns
     enum-told
     clear-requires
-    word-requires
-    word-requires-2
+    u32-at-requires
+    u32-at-requires-2
     sift-all-requires
     enum-known-n
     enum-known-why

@@ -1,20 +1,23 @@
 -- `name_filter::mark` meets its contract: an index that was passed has no fault, and is seen. Assumes nothing.
 use Prim.Native.Nat.{_-_}
 use lib.ListN.{length}
-use Rattle.name_filter.proofs.Marks.{Passed, passed-none, passed-index, passed-fault, passed-next, passed-all}
+use Rattle.name_filter.proofs.Marks.{bits, Passed, passed-none, passed-index, passed-fault, passed-next, passed-all}
+use Rattle.name_filter.specs.Steps.{names}
 use borrow.Author.Needs.{needs}
 use native.Mathlib.Omega.{arith}
 use Rattle.name_filter.proofs.mark.Statement.{statement}
 use Rattle.name_filter.proofs.mark.Tie as tie
 
 abbrev Inv-loop : tie.InvT-loop
-Inv-loop file count table query given seen₀ has₀ i₀ seen has i = Passed file count table query given seen₀ has₀ seen has i
+Inv-loop file count table query given seen₀ has₀ i₀ seen has i = Passed (names file table query) count given (bits seen₀ has₀) (bits seen has) i
 
 abbrev μ-loop : tie.MeasureT-loop
 μ-loop file count table query given seen₀ has₀ i₀ seen has i = length given - i
 
 loop-holds : tie.Need-loop-holds Inv-loop μ-loop
-loop-holds c = passed-none _ _ (c .before .before .before .before .before .pre)
+loop-holds c =
+    let start = c .before .before .before .before .before in
+    passed-none _ (start .pre)
 
 mul-index : tie.Need-mul-index Inv-loop μ-loop
 mul-index c = search needs
@@ -44,7 +47,12 @@ same-length-4 : tie.Need-same-length-4 Inv-loop μ-loop
 same-length-4 c = search needs
 
 returns-2 : tie.Need-returns-2 Inv-loop μ-loop
-returns-2 c = passed-fault (c .before .before .before .before .before .before .before .before .before .before .before .before .before .loop .inv) (c .before .before .before .before .before .before .before .before .before .before .before .before .loop-test .taken) (c .before .before .before .before .before .before .before .before .before .before .if1 .left) (c .before .before .before .before .before .before .before .mark-one .ensures) _ (c .before .fault .given .1)
+returns-2 c =
+    let at-mark-one = c .before .before .before .before .before .before .before in
+    let at-if1 = at-mark-one .before .before .before in
+    let at-loop-test = at-if1 .before .before in
+    let at-loop = at-loop-test .before in
+    passed-fault (at-loop .loop .inv) (at-loop-test .loop-test .taken) (at-if1 .if1 .left) (at-mark-one .mark-one .ensures) _ (c .before .fault .given .1)
 
 enum-told : tie.Need-enum-told Inv-loop μ-loop
 enum-told c = search needs
@@ -56,7 +64,12 @@ loop-less : tie.Need-loop-less Inv-loop μ-loop
 loop-less c = search needs
 
 loop-again : tie.Need-loop-again Inv-loop μ-loop
-loop-again c = passed-next (c .before .before .before .before .before .before .before .before .before .before .before .before .loop .inv) (c .before .before .before .before .before .before .before .before .before .before .before .loop-test .taken) (c .before .before .before .before .before .before .before .before .before .if1 .left) (c .before .before .before .before .before .before .mark-one .ensures) (c .enum-told .given .1) (c .before .before .before .before .before .before .mark-one .kept .1 .1 .1 .1 .0) (c .before .before .before .before .before .before .mark-one .kept .1 .1 .1 .1 .1 .0)
+loop-again c =
+    let at-mark-one = c .before .before .before .before .before .before in
+    let at-if1 = at-mark-one .before .before .before in
+    let at-loop-test = at-if1 .before .before in
+    let at-loop = at-loop-test .before in
+    passed-next (at-loop .loop .inv) (at-loop-test .loop-test .taken) (at-if1 .if1 .left) (at-mark-one .mark-one .ensures) (c .enum-told .given .1) (at-mark-one .mark-one .kept .1 .1 .1 .1 .0) (at-mark-one .mark-one .kept .1 .1 .1 .1 .1 .0)
 
 same-length-5 : tie.Need-same-length-5 Inv-loop μ-loop
 same-length-5 c = search needs

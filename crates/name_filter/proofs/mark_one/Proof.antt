@@ -2,7 +2,7 @@
 -- Assumes nothing.
 use mathlib.Core.Path.{ap, sym, _∙_}
 use Rattle.string_data.specs.Text.{stringText}
-use Rattle.name_faults.proofs.Faults.{judged-at}
+use Rattle.name_filter.proofs.Faults.{judged-at}
 use Rattle.name_filter.proofs.Marks.{look-known, look-noted, look-refused}
 use borrow.Author.Needs.{needs}
 use Rattle.name_filter.proofs.mark_one.Statement.{statement}
@@ -15,10 +15,12 @@ same-length : tie.Need-same-length
 same-length c = search needs
 
 returns : tie.Need-returns
-returns c = look-known (c .before .before .before .before .before .before .before .args .index) (c .before .before .before .before .before .before .before .pre .marks) (sym (c .before .holds .ensures) ∙ c .if1 .taken)
+returns c =
+    let start = c .before .before .before .before .before .before .before in
+    look-known (start .args .index) (start .pre .marks) (sym (c .before .holds .ensures) ∙ c .if1 .taken)
 
 data-offset-requires : tie.Need-data-offset-requires
-data-offset-requires c κs = c .before .before .before .before .before .before .before .pre .id
+data-offset-requires c κs = search needs
 
 judge-requires : tie.Need-judge-requires
 judge-requires c κs = search needs
@@ -27,7 +29,9 @@ enum-known-named : tie.Need-enum-known-named
 enum-known-named c = search needs
 
 note-requires : tie.Need-note-requires
-note-requires c κs = c .before .before .before .before .before .before .before .before .before .before .before .before .before .before .pre .room
+note-requires c κs =
+    let start = c .before .before .before .before .before .before .before .before .before .before .before .before .before .before in
+    start .pre .room
 
 enum-known-why : tie.Need-enum-known-why
 enum-known-why c = search needs
@@ -40,20 +44,27 @@ same-length-3 c = search needs
 
 returns-2 : tie.Need-returns-2
 returns-2 c =
-    let a = c .before .before .before .before .before .before .before .before .before .before .before .before .before .before .before .before .before .before .before .args in
-    let b = c .before .before .before .before .before .before .before .before .named .given .0 .0 in
-    let j = judged-at (ap (stringText (a .file .now)) (c .before .before .before .before .before .before .before .before .before .before .before .data-offset .ensures)) (c .before .before .before .before .before .before .before .before .before .before .judge .ensures) .known b (c .before .before .before .before .before .before .before .before .named .given .1) in
-    look-noted (a .index) (c .before .before .before .before .before .before .before .before .before .before .before .before .before .before .before .before .before .before .before .pre .marks) (sym (c .before .before .before .before .before .before .before .before .before .before .before .before .before .holds .ensures) ∙ c .before .before .before .before .before .before .before .before .before .before .before .before .if1 .left) b (j .0) (j .1) (c .before .before .before .before .note .ensures)
+    let at-named = c .before .before .before .before .before .before .before .before in
+    let at-judge = at-named .before .before in
+    let at-data-offset = at-judge .before in
+    let at-if1 = at-data-offset .before in
+    let at-holds = at-if1 .before in
+    let start = at-holds .before .before .before .before .before .before in
+    let a = start .args in
+    let b = at-named .named .given .0 .0 in
+    let j = judged-at (ap (stringText (a .file .now)) (at-data-offset .data-offset .ensures)) (at-judge .judge .ensures) .known b (at-named .named .given .1) in
+    look-noted (a .index) (start .pre .marks) (sym (at-holds .holds .ensures) ∙ at-if1 .if1 .left) b (j .0) (j .1) (c .before .before .before .before .note .ensures)
 
 same-length-4 : tie.Need-same-length-4
 same-length-4 c = search needs
 
 returns-3 : tie.Need-returns-3
 returns-3 c =
-    let a = c .before .before .before .before .before .before .before .before .before .before .before .before .args in
+    let start = c .before .before .before .before .before .before .before .before .before .before .before .before in
+    let a = start .args in
     let why = c .before .why .given .0 .0 in
     let j = judged-at (ap (stringText (a .file .now)) (c .before .before .before .before .data-offset .ensures)) (c .before .before .before .judge .ensures) .refused why (c .before .why .given .1) in
-    look-refused (a .index) (c .before .before .before .before .before .before .before .before .before .before .before .before .pre .marks) why j
+    look-refused (a .index) (start .pre .marks) why j
 
 pub mark-one-spec : {M : Type 1} → statement M
 mark-one-spec =

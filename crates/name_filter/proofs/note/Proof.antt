@@ -17,13 +17,18 @@ same-length-2 : tie.Need-same-length-2
 same-length-2 c = search needs
 
 returns : tie.Need-returns
-returns c = noted-both (c .before .before .before .before .before .before .before .add .ensures) (c .before .before .before .before .before .before .before .before .before .before .before .pre) _ (c .before .before .before .before .if1 .taken) (c .before .before .add2 .ensures)
+returns c =
+    let at-add = c .before .before .before .before .before .before .before in
+    let start = at-add .before .before .before .before in
+    noted-both (at-add .add .ensures) (start .pre) _ (c .before .before .before .before .if1 .taken) (c .before .before .add2 .ensures)
 
 same-length-3 : tie.Need-same-length-3
 same-length-3 c = search needs
 
 returns-2 : tie.Need-returns-2
-returns-2 c = noted-seen (c .before .before .before .add .ensures) (c .before .before .before .before .before .before .before .pre) _ (c .if1 .left)
+returns-2 c =
+    let start = c .before .before .before .before .before .before .before in
+    noted-seen (c .before .before .before .add .ensures) (start .pre) _ (c .if1 .left)
 
 pub note-spec : {M : Type 1} → statement M
 note-spec =

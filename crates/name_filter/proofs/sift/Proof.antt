@@ -1,8 +1,8 @@
 -- `name_filter::sift` meets its contract: without a fault the strings that the set holds are the named ones. Assumes nothing.
 use mathlib.Core.Path.{refl, ap, sym, _∙_}
 use native.Mathlib.Omega.{arith}
-use Rattle.string_search.specs.Search.{faultNumber}
-use Rattle.name_filter.specs.Names.{stopped}
+use Rattle.word_set.specs.Found.{faultNumber}
+use Rattle.name_filter.specs.Steps.{stopped}
 use Rattle.name_filter.proofs.Sifting.{sift-done, sift-short}
 use borrow.Author.Needs.{needs}
 use Rattle.name_filter.proofs.sift.Statement.{statement}
@@ -21,7 +21,9 @@ same-length-2 : tie.Need-same-length-2
 same-length-2 c = search needs
 
 returns : tie.Need-returns
-returns c = stopped (c .before .fault .given .0 .0) refl (sym (ap faultNumber (c .before .fault .given .1)) ∙ c .before .before .before .before .before .before .before .mark .ensures .fault)
+returns c =
+    let at-mark = c .before .before .before .before .before .before .before in
+    stopped (c .before .fault .given .0 .0) refl (sym (ap faultNumber (c .before .fault .given .1)) ∙ at-mark .mark .ensures .fault)
 
 enum-told : tie.Need-enum-told
 enum-told c = search needs
@@ -45,7 +47,11 @@ same-length-5 : tie.Need-same-length-5
 same-length-5 c = search needs
 
 returns-2 : tie.Need-returns-2
-returns-2 c = sift-short (c .before .before .before .before .before .before .before .before .before .before .before .before .before .mark .ensures) (ap faultNumber (c .before .before .before .before .before .before .before .enum-told .given .1)) (omega (arith, c .before .before .before .before .before .before .before .before .before .before .before .before .before .before .before .before .before .before .before .before .before .before .pre .small, c .before .before .before .before .before .before .before .before .before .before .before .before .before .mark .kept)) (c .before .before .before .before .before .before .before .before .before .before .before .before .before .before .before .before .before .before .before .before .before .before .pre .clear) (c .before .before .before .before .gather .ensures) (c .enum-told2 .given .1)
+returns-2 c =
+    let at-enum-told = c .before .before .before .before .before .before .before in
+    let at-mark = at-enum-told .before .before .before .before .before .before in
+    let start = at-mark .before .before .before .before .before .before .before .before .before in
+    sift-short (at-mark .mark .ensures) (ap faultNumber (at-enum-told .enum-told .given .1)) (omega (arith, start .pre .small, at-mark .mark .kept)) (start .pre .clear) (c .before .before .before .before .gather .ensures) (c .enum-told2 .given .1)
 
 same-length-6 : tie.Need-same-length-6
 same-length-6 c = search needs
@@ -57,7 +63,12 @@ same-length-8 : tie.Need-same-length-8
 same-length-8 c = search needs
 
 returns-3 : tie.Need-returns-3
-returns-3 c = sift-done (c .before .before .before .before .before .before .before .before .before .before .before .before .before .before .mark .ensures) (ap faultNumber (c .before .before .before .before .before .before .before .before .enum-told .given .1)) (omega (arith, c .before .before .before .before .before .before .before .before .before .before .before .before .before .before .before .before .before .before .before .before .before .before .before .pre .small, c .before .before .before .before .before .before .before .before .before .before .before .before .before .before .mark .kept)) (c .before .before .before .before .before .before .before .before .before .before .before .before .before .before .before .before .before .before .before .before .before .before .before .pre .clear) (c .before .before .before .before .before .gather .ensures) _ (c .before .n .given .1)
+returns-3 c =
+    let at-gather = c .before .before .before .before .before in
+    let at-enum-told = at-gather .before .before .before in
+    let at-mark = at-enum-told .before .before .before .before .before .before in
+    let start = at-mark .before .before .before .before .before .before .before .before .before in
+    sift-done (at-mark .mark .ensures) (ap faultNumber (at-enum-told .enum-told .given .1)) (omega (arith, start .pre .small, at-mark .mark .kept)) (start .pre .clear) (at-gather .gather .ensures) _ (c .before .n .given .1)
 
 pub sift-spec : {M : Type 1} → statement M
 sift-spec =

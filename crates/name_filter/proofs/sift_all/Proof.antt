@@ -5,8 +5,9 @@ use Rattle.name_filter.proofs.sift_all.Tie as tie
 
 sift-few-requires : tie.Need-sift-few-requires
 sift-few-requires c κs =
-    let p = c .before .before .before .before .before .before .pre in
-    record { ids = p .ids; few = c .before .if1 .taken; clear = p .clear }
+    let start = c .before .before .before .before .before .before in
+    let p = start .pre in
+    record { few = c .before .if1 .taken; clear = p .clear }
 
 same-length : tie.Need-same-length
 same-length c = search needs
@@ -16,8 +17,9 @@ returns c = search needs
 
 sift-some-requires : tie.Need-sift-some-requires
 sift-some-requires c κs =
-    let p = c .before .before .before .before .before .before .before .pre in
-    record { ids = p .ids; few = c .before .if2 .taken; clear = p .clear }
+    let start = c .before .before .before .before .before .before .before in
+    let p = start .pre in
+    record { few = c .before .if2 .taken; clear = p .clear }
 
 same-length-2 : tie.Need-same-length-2
 same-length-2 c = search needs

@@ -12,7 +12,9 @@ slice-aggregate-sift-2 : tie.Need-slice-aggregate-sift-2
 slice-aggregate-sift-2 c = search needs
 
 sift-requires : tie.Need-sift-requires
-sift-requires c κs = begun 64 (omega arith) (omega arith) (c .before .before .before .before .before .before .before .pre)
+sift-requires c κs =
+    let start = c .before .before .before .before .before .before .before in
+    begun 64 (omega arith) (omega arith) (start .pre)
 
 same-length : tie.Need-same-length
 same-length c = search needs

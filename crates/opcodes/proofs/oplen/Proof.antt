@@ -1,4 +1,4 @@
--- `oplen` meets its contract: at each number of an arm the ranges of document 01 give the arm's length, by one test for each arm.
+-- `oplen` meets its contract: at each number of an arm the ranges of SPEC, Instruction lengths, give the arm's length, by one test for each arm.
 -- Assumes nothing.
 use mathlib.Core.List.{List, [], _∷_}
 use Prim.Native.Nat.{ℕ}

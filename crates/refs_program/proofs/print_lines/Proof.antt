@@ -1,3 +1,5 @@
+-- `refs_program::print_lines` is safe, and ends: the place stays within the offsets, and the lent slices keep their lengths.
+-- Assumes nothing.
 use mathlib.Core.Path.{_≡_}
 use Prim.Native.Nat.{_≤_, _-_}
 use lib.ListN.{length}

@@ -1,3 +1,5 @@
+-- `request::read_indices` meets its contract: what is stored, and what is still to be read from here, are the whole list, of at most 16.
+-- Assumes nothing.
 use Prim.Native.Nat.{ℕ, _+_, _-_, _≤_}
 use mathlib.Core.Path.{_≡_, refl, ap, _∙_}
 use mathlib.Core.List.{List}
@@ -34,8 +36,9 @@ same-length c = search needs
 
 returns : tie.Need-returns Inv-loop μ-loop
 returns c =
+    let at-start = c .before .before .before .before .before .before .before in
     let l = c .before .before .before .before .loop in
-    let s = c .before .before .before .before .before .before .before .args .text .now in
+    let s = at-start .args .text .now in
     ends-without s (16 - l .n) (16 - (l .n + 1)) (l .i) (l .n) (l .wanted) _ (omega arith) (l .inv .2) (l .wanted) (met (c .enum-told .given .1) (c .before .before .read-number .ensures))
 
 put-requires : tie.Need-put-requires Inv-loop μ-loop
@@ -61,18 +64,28 @@ same-length-2 c = search needs
 
 returns-2 : tie.Need-returns-2 Inv-loop μ-loop
 returns-2 c =
-    let l = c .before .before .before .before .before .before .before .before .before .before .before .before .before .loop in
-    let s = c .before .before .before .before .before .before .before .before .before .before .before .before .before .before .before .before .args .text .now in
-    ap (view _) (c .before .before .before .before .before .before .put .ensures) ∙ ends-with s (16 - l .n) (16 - (l .n + 1)) (l .i) (l .n) (l .wanted) _ (omega arith) (l .inv .2) _ _ (met (c .before .before .before .before .before .before .before .before .before .v .given .1) (c .before .before .before .before .before .before .before .before .before .before .before .read-number .ensures)) (met (c .enum-told2 .given .1) (c .before .before .read-word .ensures))
+    let at-put = c .before .before .before .before .before .before in
+    let at-v = at-put .before .before .before in
+    let at-read-number = at-v .before .before in
+    let at-loop = at-read-number .before .before in
+    let at-start = at-loop .before .before .before in
+    let l = at-loop .loop in
+    let s = at-start .args .text .now in
+    ap (view _) (at-put .put .ensures) ∙ ends-with s (16 - l .n) (16 - (l .n + 1)) (l .i) (l .n) (l .wanted) _ (omega arith) (l .inv .2) _ _ (met (at-v .v .given .1) (at-read-number .read-number .ensures)) (met (c .enum-told2 .given .1) (c .before .before .read-word .ensures))
 
 loop-less : tie.Need-loop-less Inv-loop μ-loop
 loop-less c = search needs
 
 loop-again : tie.Need-loop-again Inv-loop μ-loop
 loop-again c =
-    let l = c .before .before .before .before .before .before .before .before .before .before .before .before .before .before .loop in
-    let s = c .before .before .before .before .before .before .before .before .before .before .before .before .before .before .before .before .before .args .text .now in
-    (omega arith, ap length (c .before .before .before .before .before .before .before .put .ensures) ∙ simp length-set (l .inv .1), ap (λ (ws : List ℕ). stored (l .n + 1) ws (indicesAt (16 - (l .n + 1)) s (c .before .q .given .0 .0))) (c .before .before .before .before .before .before .before .put .ensures) ∙ goes-on s (16 - l .n) (16 - (l .n + 1)) (l .i) (l .n) (l .wanted) _ (omega arith) (l .inv .2) _ _ _ (met (c .before .before .before .before .before .before .before .before .before .before .v .given .1) (c .before .before .before .before .before .before .before .before .before .before .before .before .read-number .ensures)) (met (c .before .q .given .1) (c .before .before .before .read-word .ensures)))
+    let at-put = c .before .before .before .before .before .before .before in
+    let at-v = at-put .before .before .before in
+    let at-read-number = at-v .before .before in
+    let at-loop = at-read-number .before .before in
+    let at-start = at-loop .before .before .before in
+    let l = at-loop .loop in
+    let s = at-start .args .text .now in
+    (omega arith, ap length (at-put .put .ensures) ∙ simp length-set (l .inv .1), ap (λ (ws : List ℕ). stored (l .n + 1) ws (indicesAt (16 - (l .n + 1)) s (c .before .q .given .0 .0))) (at-put .put .ensures) ∙ goes-on s (16 - l .n) (16 - (l .n + 1)) (l .i) (l .n) (l .wanted) _ (omega arith) (l .inv .2) _ _ _ (met (at-v .v .given .1) (at-read-number .read-number .ensures)) (met (c .before .q .given .1) (c .before .before .before .read-word .ensures)))
 
 same-length-3 : tie.Need-same-length-3 Inv-loop μ-loop
 same-length-3 c = search needs

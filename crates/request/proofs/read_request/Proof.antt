@@ -28,7 +28,9 @@ same-length : tie.Need-same-length
 same-length c = search needs
 
 returns : tie.Need-returns
-returns c = says-refused _ BadRequest _ _ _ _ (no-header _ _ (met (c .before .before .before .before .enum-told .given .1) (c .before .before .before .before .before .before .header-lines .ensures))) (omega arith) (c .before .before .refuse .ensures)
+returns c =
+    let at-header-lines = c .before .before .before .before .before .before in
+    says-refused _ BadRequest _ _ _ _ (no-header _ _ (met (c .before .before .before .before .enum-told .given .1) (at-header-lines .header-lines .ensures))) (omega arith) (c .before .before .refuse .ensures)
 
 kind-line-requires : tie.Need-kind-line-requires
 kind-line-requires c κs = search needs
@@ -46,7 +48,11 @@ same-length-2 : tie.Need-same-length-2
 same-length-2 c = search needs
 
 returns-2 : tie.Need-returns-2
-returns-2 c = says-refused _ BadRequest _ _ _ _ (no-kind _ _ _ _ (met (c .before .before .before .before .before .before .before .before .header .given .1) (c .before .before .before .before .before .before .before .before .before .before .header-lines .ensures)) (met (c .before .before .before .before .enum-told2 .given .1) (c .before .before .before .before .before .before .kind-line .ensures))) (omega arith) (c .before .before .refuse2 .ensures)
+returns-2 c =
+    let at-kind-line = c .before .before .before .before .before .before in
+    let at-header = at-kind-line .before .before in
+    let at-header-lines = at-header .before .before in
+    says-refused _ BadRequest _ _ _ _ (no-kind _ _ _ _ (met (at-header .header .given .1) (at-header-lines .header-lines .ensures)) (met (c .before .before .before .before .enum-told2 .given .1) (at-kind-line .kind-line .ensures))) (omega arith) (c .before .before .refuse2 .ensures)
 
 index-line-requires : tie.Need-index-line-requires
 index-line-requires c κs = search needs
@@ -64,7 +70,13 @@ same-length-3 : tie.Need-same-length-3
 same-length-3 c = search needs
 
 returns-3 : tie.Need-returns-3
-returns-3 c = says-refused _ BadRequest _ _ _ _ (no-index _ _ _ _ (met (c .before .before .before .before .before .before .before .before .before .before .before .before .before .before .before .header .given .1) (c .before .before .before .before .before .before .before .before .before .before .before .before .before .before .before .before .before .header-lines .ensures)) _ _ (met (c .before .before .before .before .before .before .before .before .before .before .before .kind .given .1) (c .before .before .before .before .before .before .before .before .before .before .before .before .before .kind-line .ensures)) _ _ (viewed _ (c .before .before .before .before .enum-told3 .given .1) (c .before .before .before .before .before .before .before .before .index-line .ensures))) (omega arith) (c .before .before .refuse3 .ensures)
+returns-3 c =
+    let at-index-line = c .before .before .before .before .before .before .before .before in
+    let at-kind = at-index-line .before .before .before in
+    let at-kind-line = at-kind .before .before in
+    let at-header = at-kind-line .before .before in
+    let at-header-lines = at-header .before .before in
+    says-refused _ BadRequest _ _ _ _ (no-index _ _ _ _ (met (at-header .header .given .1) (at-header-lines .header-lines .ensures)) _ _ (met (at-kind .kind .given .1) (at-kind-line .kind-line .ensures)) _ _ (viewed _ (c .before .before .before .before .enum-told3 .given .1) (at-index-line .index-line .ensures))) (omega arith) (c .before .before .refuse3 .ensures)
 
 refuse-requires-4 : tie.Need-refuse-requires-4
 refuse-requires-4 c κs = search needs
@@ -73,7 +85,14 @@ same-length-4 : tie.Need-same-length-4
 same-length-4 c = search needs
 
 returns-4 : tie.Need-returns-4
-returns-4 c = says-refused _ BadRequest _ _ _ _ (more-text _ _ _ _ (met (c .before .before .before .before .before .before .before .before .before .before .before .before .before .before .before .before .before .header .given .1) (c .before .before .before .before .before .before .before .before .before .before .before .before .before .before .before .before .before .before .before .header-lines .ensures)) _ _ (met (c .before .before .before .before .before .before .before .before .before .before .before .before .before .kind .given .1) (c .before .before .before .before .before .before .before .before .before .before .before .before .before .before .before .kind-line .ensures)) _ _ _ _ (viewed _ (c .before .before .before .before .before .before .count .given .1) (c .before .before .before .before .before .before .before .before .before .before .index-line .ensures)) (c .before .before .before .before .if1 .taken)) (omega arith) (c .before .before .refuse4 .ensures)
+returns-4 c =
+    let at-count = c .before .before .before .before .before .before in
+    let at-index-line = at-count .before .before .before .before in
+    let at-kind = at-index-line .before .before .before in
+    let at-kind-line = at-kind .before .before in
+    let at-header = at-kind-line .before .before in
+    let at-header-lines = at-header .before .before in
+    says-refused _ BadRequest _ _ _ _ (more-text _ _ _ _ (met (at-header .header .given .1) (at-header-lines .header-lines .ensures)) _ _ (met (at-kind .kind .given .1) (at-kind-line .kind-line .ensures)) _ _ _ _ (viewed _ (at-count .count .given .1) (at-index-line .index-line .ensures)) (c .before .before .before .before .if1 .taken)) (omega arith) (c .before .before .refuse4 .ensures)
 
 refuse-requires-5 : tie.Need-refuse-requires-5
 refuse-requires-5 c κs = search needs
@@ -88,7 +107,14 @@ same-length-6 : tie.Need-same-length-6
 same-length-6 c = search needs
 
 returns-6 : tie.Need-returns-6
-returns-6 c = says-asked _ _ _ _ (met (c .before .before .before .before .before .before .before .before .before .before .before .before .before .before .header .given .1) (c .before .before .before .before .before .before .before .before .before .before .before .before .before .before .before .before .header-lines .ensures)) _ _ (met (c .before .before .before .before .before .before .before .before .before .before .kind .given .1) (c .before .before .before .before .before .before .before .before .before .before .before .before .kind-line .ensures)) _ _ _ _ (viewed _ (c .before .before .before .count .given .1) (c .before .before .before .before .before .before .before .index-line .ensures)) (c .before .if1 .left) (omega arith) (c .before .before .before .before .before .before .before .before .before .before .before .before .before .before .before .before .before .before .before .clear .ensures) _ refl
+returns-6 c =
+    let at-index-line = c .before .before .before .before .before .before .before in
+    let at-kind = at-index-line .before .before .before in
+    let at-kind-line = at-kind .before .before in
+    let at-header = at-kind-line .before .before in
+    let at-header-lines = at-header .before .before in
+    let at-clear = at-header-lines .before .before .before in
+    says-asked _ _ _ _ (met (at-header .header .given .1) (at-header-lines .header-lines .ensures)) _ _ (met (at-kind .kind .given .1) (at-kind-line .kind-line .ensures)) _ _ _ _ (viewed _ (c .before .before .before .count .given .1) (at-index-line .index-line .ensures)) (c .before .if1 .left) (omega arith) (at-clear .clear .ensures) _ refl
 
 pub read-request-spec : {M : Type 1} → statement M
 read-request-spec =

@@ -42,7 +42,7 @@ returns c =
     let q = c .before .before .before .before .before .before .before .before .before .before .before .before .before .before .before .before .before .before .before .before in
     let same = q .before .before .before .before .before .before .before .before .before .header-of .ensures in
     let told = c .tell-found .ensures in
-    (record { answer = _; handed = told; right = rw same at (q .find .ensures .0) }, record { answer = _; handed = told; right = rw same at (q .find .ensures .1) })
+    (record { answer = q .find .result; handed = told; right = rw same at (q .find .ensures .0) }, record { answer = q .find .result; handed = told; right = rw same at (q .find .ensures .1) })
 
 pub ringlinden-find-spec : {M : Type 1} → statement M
 ringlinden-find-spec =

@@ -1,3 +1,5 @@
+-- The methods counted and those of the share that is left make up the count.
+-- Assumes nothing.
 use mathlib.Core.Path.{_≡_, refl, sym, ap, _∙_}
 use mathlib.Core.List.{List}
 use mathlib.Core.Option.{Option}
@@ -6,7 +8,7 @@ use lib.ListN.{length}
 use borrow.Author.Needs.{needs}
 use native.Mathlib.Omega.{arith}
 use Rattle.slot_listing.specs.declared.Chain.the-variants.{Count}
-use Rattle.slot_listing.specs.Chains.{methodsOf, countOf}
+use Rattle.slot_listing.specs.Steps.{methodsOf, countOf}
 use Rattle.slot_listing.proofs.Chains.{earlierWord, lastWord, share-outside, share-ends, share-back, share-goes, more, more-none, more-one}
 use Rattle.slot_listing.proofs.chain_count.Statement.{statement}
 use Rattle.slot_listing.proofs.chain_count.Tie as tie
@@ -48,7 +50,8 @@ returns c =
 
 returns-2 : tie.Need-returns-2 Inv-loop μ-loop
 returns-2 c =
-    let ws = c .before .before .before .before .before .args .shares .now in
+    let start = c .before .before .before .before .before in
+    let ws = start .args .shares .now in
     let s = c .before .before .before .before .loop in
     sym (s .inv .0 ∙ ap (λ (r : Option (List ℕ)). more (s .n) (countOf r)) (share-back ws (s .at) (omega arith) (omega arith)))
 
@@ -63,10 +66,15 @@ loop-less c = search needs
 
 loop-again : tie.Need-loop-again Inv-loop μ-loop
 loop-again c =
-    let ws = c .before .before .before .before .before .args .shares .now in
+    let start = c .before .before .before .before .before in
+    let ws = start .args .shares .now in
     let s = c .before .before .before .before .loop in
-    let e = earlierWord ws (s .at) in
-    (s .inv .0 ∙ ap (λ (r : Option (List ℕ)). more (s .n) (countOf r)) (share-goes ws (s .at) (omega arith) (omega arith) (omega arith)) ∙ more-one (s .n) (methodsOf ws (e - 1)) (lastWord ws (s .at)), omega arith, s .inv .2)
+    let e = earlierWord ws (s .at) in (
+      s .inv .0 ∙ ap (λ (r : Option (List ℕ)). more (s .n) (countOf r)) (share-goes ws (s .at) (omega arith) (omega arith) (omega arith)) ∙ more-one
+          (s .n) (methodsOf ws (e - 1)) (lastWord ws (s .at)),
+      omega arith,
+      s .inv .2,
+    )
 
 returns-3 : tie.Need-returns-3 Inv-loop μ-loop
 returns-3 c =

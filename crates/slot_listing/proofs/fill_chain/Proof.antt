@@ -1,3 +1,5 @@
+-- The words written from the end and the list of the share that is left make up the list.
+-- Assumes nothing.
 use mathlib.Core.Path.{_≡_, refl, sym, ap, _∙_}
 use mathlib.Core.List.{List, [], _∷_, _++_, append-assoc}
 use mathlib.Core.Option.{some}
@@ -7,12 +9,12 @@ use native.Mathlib.Numerals.{add-one}
 use native.Mathlib.Omega.{arith}
 use lib.Seq.{drop-cons, getD-set-same, drop-set-lt}
 use borrow.Author.Needs.{needs}
-use Rattle.slot_listing.specs.Chains.{methodsOf, listBy}
+use Rattle.slot_listing.specs.Steps.{methodsOf, listBy}
 use Rattle.slot_listing.proofs.Chains.{firstWord, lastWord, earlierWord, Goes, Ends, list-goes, list-ends, two-of, count-some}
 use Rattle.slot_listing.proofs.fill_chain.Statement.{statement}
 use Rattle.slot_listing.proofs.fill_chain.Tie as tie
 
--- at share `at` the first j words are left to write: its list goes there, and the words behind are as they should be
+-- at share `at` the first j words are left to write: its list goes there, and the words after it are as they should be
 record Left (ws : List ℕ) (k n : ℕ) (out₀ out : List ℕ) (at j : ℕ) : Type 0 where
   pub has : methodsOf ws at ≡ some (listBy (methodsOf ws at))
   pub count : length (listBy (methodsOf ws at)) ≡ j
@@ -20,7 +22,7 @@ record Left (ws : List ℕ) (k n : ℕ) (out₀ out : List ℕ) (at j : ℕ) : T
   pub fewer : j ≤ n
   pub long : length out ≡ length out₀
 
--- the word put at i, and those behind
+-- the word put at i, and those after it
 drop-put : (out : List ℕ) (i x : ℕ) → i < length out → drop i (set out i x) ≡ x ∷ drop (i + 1) out
 drop-put out i x h =
     let l : i < length (set out i x) = simp length-set h in
@@ -33,7 +35,8 @@ first-two (x ∷ []) a b h = absurd (omega arith)
 first-two (x ∷ y ∷ zs) a b h = refl
 
 -- one method written: the last of the share's list
-step : (ws : List ℕ) (k n : ℕ) (out₀ out : List ℕ) (at j : ℕ) → Left ws k n out₀ out at j → Goes ws at (listBy (methodsOf ws at)) → 2 < j → j ≤ length out
+step : (ws : List ℕ) (k n : ℕ) (out₀ out : List ℕ) (at j : ℕ) → Left ws k n out₀ out at j → Goes ws at (listBy (methodsOf ws at)) → 2 < j
+    → j ≤ length out
     → Left ws k n out₀ (set out (j - 1) (lastWord ws at)) (earlierWord ws at - 1) (j - 1)
 step ws k n out₀ out at j s g h b =
     let x = lastWord ws at in
@@ -60,14 +63,16 @@ abbrev μ-loop : tie.MeasureT-loop
 μ-loop shares k n methods₀ at₀ left₀ methods at left = left
 
 on : (c : tie.In-loop Inv-loop μ-loop)
-    → Goes (c .before .before .args .shares .now) (c .before .loop .at) (listBy (methodsOf (c .before .before .args .shares .now) (c .before .loop .at)))
+    → Goes (c .before .before .args .shares .now) (c .before .loop .at)
+    (listBy (methodsOf (c .before .before .args .shares .now) (c .before .loop .at)))
 on c =
     let ws = c .before .before .args .shares .now in
     let s = c .before .loop in
     list-goes ws (s .at) (listBy (methodsOf ws (s .at))) (s .inv .has) (omega arith)
 
 ends : (c : tie.After-loop Inv-loop μ-loop)
-    → Ends (c .before .before .args .shares .now) (c .before .loop .at) (listBy (methodsOf (c .before .before .args .shares .now) (c .before .loop .at)))
+    → Ends (c .before .before .args .shares .now) (c .before .loop .at)
+    (listBy (methodsOf (c .before .before .args .shares .now) (c .before .loop .at)))
 ends c =
     let ws = c .before .before .args .shares .now in
     let s = c .before .loop in
@@ -130,7 +135,9 @@ loop-again : tie.Need-loop-again Inv-loop μ-loop
 loop-again c =
     let ws = c .before .before .before .before .args .shares .now in
     let s = c .before .before .before .loop in
-    step ws (c .before .before .before .before .args .k) (c .before .before .before .before .args .n) (c .before .before .before .before .args .methods .now) (s .methods) (s .at) (s .left) (s .inv) (on (c .before .before)) (omega arith) (omega arith)
+    step ws (c .before .before .before .before .args .k) (c .before .before .before .before .args .n)
+    (c .before .before .before .before .args .methods .now) (s .methods) (s .at) (s .left) (s .inv) (on (c .before .before)) (omega arith)
+    (omega arith)
 
 mul-methods-4 : tie.Need-mul-methods-4 Inv-loop μ-loop
 mul-methods-4 c = omega (arith, ends (c))

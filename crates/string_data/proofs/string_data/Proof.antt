@@ -1,4 +1,4 @@
--- `string_data::string_data` meets its contract: the loop keeps the text behind the length bytes left equal to that behind all five.
+-- `string_data::string_data` meets its contract: the loop keeps the text after the length bytes left equal to that after all five.
 -- Assumes nothing.
 use Rattle.string_data.proofs.Laws.{length-off, length-over, length-ends, length-more, length-none, too-large, small-enough}
 use Rattle.string_data.specs.Text.{behindLength}

@@ -10,14 +10,23 @@ use borrow.Author.Needs.{needs}
 use Rattle.string_locator.proofs.build_map.Statement.{statement}
 use Rattle.string_locator.proofs.build_map.Tie as tie
 
--- the map that was found has room in the cleared words
-room-of : (c : tie.After-found) → let s = c .before .before .before .before .before .before .before .before .before .before in Room (s .args .file .now) (s .args .header .strings .off) (s .args .header .strings .size) (length (c .before .before .before .before .before .before .clear .last .0)) (area (c .found .given .0 .0) (c .found .given .0 .1 .0) (c .found .given .0 .1 .1 .0))
-room-of c =
-    let s = c .before .before .before .before .before .before .before .before .before .before in
-    room _ _ _ (s .args .keys .now) _ (c .before .before .before .before .before .before .clear .ensures) _ _ _ (met (ap says (c .found .given .1)) (c .before .before .answer .ensures))
+-- the words were cleared before the answer was found
+abbrev at-clear : tie.After-found → tie.After-clear-wide
+at-clear c = c .before .before .before .before .before .before
 
-clear-requires : tie.Need-clear-requires
-clear-requires c κs = search needs
+abbrev at-entry : tie.After-found → tie.Start
+at-entry c = at-clear c .before .before .before .before
+
+-- the map that was found has room in the cleared words
+room-of : (c : tie.After-found)
+    → let a = at-entry c .args in
+    let v = c .found .given .0 in
+    Room (a .file .now) (a .header .strings .off) (a .header .strings .size) (length (at-clear c .clear-wide .last .0)) (area (v .0) (v .1 .0) (v .1 .1 .0))
+room-of c =
+    room _ _ _ (at-entry c .args .keys .now) _ (at-clear c .clear-wide .ensures) _ _ _ (met (ap says (c .found .given .1)) (c .before .before .answer .ensures))
+
+clear-wide-requires : tie.Need-clear-wide-requires
+clear-wide-requires c κs = search needs
 
 answer-requires : tie.Need-answer-requires
 answer-requires c κs = search needs
@@ -34,8 +43,9 @@ same-length c = search needs
 returns : tie.Need-returns
 returns c =
     let e = c .before .before .answer .ensures in
-    let z = c .before .before .before .before .before .before .clear .ensures in
-    let k = c .before .before .before .before .before .before .before .before .before .before .args .keys .now in
+    let at-clear = c .before .before .before .before .before .before in
+    let z = at-clear .clear-wide .ensures in
+    let k = at-clear .before .before .before .before .args .keys .now in
     record { answer = same-answer _ _ _ k _ z _ e; keys = no-keys _ _ _ k _ z _ (met (ap says (c .enum-told .given .1)) e) }
 
 cast-put-keys : tie.Need-cast-put-keys
@@ -45,12 +55,15 @@ slice-relend-prefix-put-keys : tie.Need-slice-relend-prefix-put-keys
 slice-relend-prefix-put-keys c = room-of (c .before .before) .lent-enough
 
 slice-aggregate-put-keys : tie.Need-slice-aggregate-put-keys
-slice-aggregate-put-keys c = sym (length-part (c .before .before .before .before .before .before .before .before .before .clear .last .0) (room-of (c .before .before .before)))
+slice-aggregate-put-keys c =
+    let at-found = c .before .before .before in
+    sym (length-part (at-clear at-found .clear-wide .last .0) (room-of at-found))
 
 put-keys-requires : tie.Need-put-keys-requires
 put-keys-requires c κs =
-    let r = room-of (c .before .before .before) in
-    let l = length-part (c .before .before .before .before .before .before .before .before .before .clear .last .0) r in
+    let at-found = c .before .before .before in
+    let r = room-of at-found in
+    let l = length-part (at-clear at-found .clear-wide .last .0) r in
     record { ids = λ p. omega (arith, l, r .ids (omega (arith, l))); few = omega (arith, l, r .few) }
 
 same-length-2 : tie.Need-same-length-2
@@ -58,17 +71,17 @@ same-length-2 c = search needs
 
 returns-2 : tie.Need-returns-2
 returns-2 c =
-    let q = c .before .before .before .before .before .before in
-    let e = met (ap says (q .found .given .1)) (q .before .before .answer .ensures) in
-    let z = q .before .before .before .before .before .before .clear .ensures in
-    let k = q .before .before .before .before .before .before .before .before .before .before .args .keys .now in
+    let at-found = c .before .before .before .before .before .before in
+    let e = met (ap says (at-found .found .given .1)) (at-found .before .before .answer .ensures) in
+    let z = at-clear at-found .clear-wide .ensures in
+    let k = at-entry at-found .args .keys .now in
     record { answer = same-answer _ _ _ k _ z _ e; keys = keys-written _ _ _ k _ z _ _ _ e _ (c .before .before .put-keys .ensures) }
 
 pub build-map-spec : {M : Type 1} → statement M
 build-map-spec =
     tie.close
     (tie.spec
-    clear-requires
+    clear-wide-requires
     answer-requires
     enum-known-found
     enum-told

@@ -2,15 +2,15 @@
 -- Assumes nothing.
 use Rattle.string_locator.proofs.Laws.{no-length, no-zero, area-found}
 use Rattle.string_data.proofs.Laws.{zero-in}
-use Rattle.leb128.proofs.Laws.{len-in}
+use Rattle.string_locator.proofs.LengthBytes.{length-in}
 use Rattle.words.proofs.Shared.{met}
 use native.Mathlib.Omega.{arith}
 use borrow.Author.Needs.{needs}
 use Rattle.string_locator.proofs.text_area.Statement.{statement}
 use Rattle.string_locator.proofs.text_area.Tie as tie
 
-read-uleb128-len-requires : tie.Need-read-uleb128-len-requires
-read-uleb128-len-requires c κs = search needs
+length-bytes-requires : tie.Need-length-bytes-requires
+length-bytes-requires c κs = search needs
 
 enum-known-len : tie.Need-enum-known-len
 enum-known-len c = search needs
@@ -19,11 +19,11 @@ enum-told : tie.Need-enum-told
 enum-told c = search needs
 
 returns : tie.Need-returns
-returns c = no-length _ _ _ _ (met (c .enum-told .given .1) (c .before .before .read-uleb128-len .ensures))
+returns c = no-length _ _ _ _ (met (c .enum-told .given .1) (c .before .before .length-bytes .ensures))
 
 add-text : tie.Need-add-text
 add-text c =
-    omega (arith, len-in _ _ _ (met (c .before .len .given .1) (c .before .before .before .read-uleb128-len .ensures)) .1)
+    omega (arith, length-in _ _ _ (met (c .before .len .given .1) (c .before .before .before .length-bytes .ensures)) .1)
 
 first-zero-requires : tie.Need-first-zero-requires
 first-zero-requires c κs = search needs
@@ -37,7 +37,7 @@ enum-told-2 c = search needs
 returns-2 : tie.Need-returns-2
 returns-2 c =
     let q = c .before .before .before .before in
-    no-zero _ _ _ _ _ (met (q .len .given .1) (q .before .before .read-uleb128-len .ensures)) (met (c .enum-told2 .given .1) (c .before .before .first-zero .ensures))
+    no-zero _ _ _ _ _ (met (q .len .given .1) (q .before .before .length-bytes .ensures)) (met (c .enum-told2 .given .1) (c .before .before .first-zero .ensures))
 
 add-t12 : tie.Need-add-t12
 add-t12 c = omega (arith, zero-in _ _ _ (met (c .before .before2 .given .1) (c .before .before .before .first-zero .ensures)))
@@ -48,13 +48,13 @@ add-t13 c = omega (arith, zero-in _ _ _ (met (c .before .before2 .given .1) (c .
 returns-3 : tie.Need-returns-3
 returns-3 c =
     let q = c .before .before .before .before .before in
-    area-found _ _ _ _ _ _ (met (q .len .given .1) (q .before .before .read-uleb128-len .ensures)) (met (c .before .before2 .given .1) (c .before .before .before .first-zero .ensures))
+    area-found _ _ _ _ _ _ (met (q .len .given .1) (q .before .before .length-bytes .ensures)) (met (c .before .before2 .given .1) (c .before .before .before .first-zero .ensures))
 
 pub text-area-spec : {M : Type 1} → statement M
 text-area-spec =
     tie.close
     (tie.spec
-    read-uleb128-len-requires
+    length-bytes-requires
     enum-known-len
     enum-told
     returns

@@ -1,9 +1,11 @@
+-- A law for each way out; what the matcher yields are the owners in the area, since the area is inside the file and forward.
+-- Assumes nothing.
 use lib.ListN.{length}
 use Rattle.string_search.proofs.Listing.{owners-listed, in-area, backward, past-end}
 use Rattle.string_search.proofs.Faults.{no-fault}
-use Rattle.string_keys.proofs.Keys.{good-rising}
-use Rattle.string_search.specs.Search.{faultNumber}
-use Rattle.rising.proofs.Found.{found-refused, found-none, exit-short, exit-all, zeros-again, zeros-length}
+use Rattle.string_search.proofs.GoodKeys.{good-rising}
+use Rattle.word_set.specs.Found.{faultNumber}
+use Rattle.word_set.proofs.Found.{found-refused, found-none, exit-short, exit-all, zeros-again, zeros-length}
 use mathlib.Core.Path.{ap, sym, _∙_}
 use native.Mathlib.Omega.{arith}
 use borrow.Author.Needs.{needs}
@@ -23,7 +25,9 @@ same-length : tie.Need-same-length
 same-length c = search needs
 
 returns : tie.Need-returns
-returns c = found-refused (owners-listed _ _ _ _ _) _ _ (sym (ap faultNumber (c .before .fault .given .1)) ∙ c .before .before .before .search-fault .ensures) (c .before .before .before .before .before .before .clear .ensures)
+returns c =
+    let at-clear = c .before .before .before .before .before .before in
+    found-refused (owners-listed _ _) _ _ (sym (ap faultNumber (c .before .fault .given .1)) ∙ c .before .before .before .search-fault .ensures) (at-clear .clear .ensures)
 
 enum-told : tie.Need-enum-told
 enum-told c = search needs
@@ -32,22 +36,29 @@ same-length-2 : tie.Need-same-length-2
 same-length-2 c = search needs
 
 returns-2 : tie.Need-returns-2
-returns-2 c = found-none (backward _ _ _ _ _ (c .if1 .taken)) _ (sym (ap faultNumber (c .before .enum-told .given .1)) ∙ c .before .before .before .search-fault .ensures) (c .before .before .before .before .before .before .clear .ensures)
+returns-2 c =
+    let at-clear = c .before .before .before .before .before .before in
+    found-none (backward _ _ (c .if1 .taken)) _ (sym (ap faultNumber (c .before .enum-told .given .1)) ∙ c .before .before .before .search-fault .ensures) (at-clear .clear .ensures)
 
 same-length-3 : tie.Need-same-length-3
 same-length-3 c = search needs
 
 returns-3 : tie.Need-returns-3
-returns-3 c = found-none (past-end _ _ _ _ _ (c .if2 .taken)) _ (sym (ap faultNumber (c .before .before .enum-told .given .1)) ∙ c .before .before .before .before .search-fault .ensures) (c .before .before .before .before .before .before .before .clear .ensures)
+returns-3 c =
+    let at-clear = c .before .before .before .before .before .before .before in
+    found-none (past-end _ _ (c .if2 .taken)) _ (sym (ap faultNumber (c .before .before .enum-told .given .1)) ∙ c .before .before .before .before .search-fault .ensures) (at-clear .clear .ensures)
 
 match-string-offset-requires : tie.Need-match-string-offset-requires
 match-string-offset-requires c κs =
-    let ok = no-fault _ _ _ _ (sym (ap faultNumber (c .before .before .before .enum-told .given .1)) ∙ c .before .before .before .before .before .search-fault .ensures) in
+    let at-search-fault = c .before .before .before .before .before in
+    let at-clear = at-search-fault .before .before .before in
+    let start = at-clear .before .before .before .before .before .before in
+    let ok = no-fault _ _ _ _ (sym (ap faultNumber (c .before .before .before .enum-told .given .1)) ∙ at-search-fault .search-fault .ensures) in
     record {
       area = record { inside = c .before .if2 .left; small = ok .small; short = ok .short; forward = c .before .before .if1 .left };
       asked = ok .least;
       rising = good-rising 0 _ (ok .good);
-      clear = zeros-again (length (c .before .before .before .before .before .before .before .before .before .before .before .before .before .before .args .out .now)) _ (c .before .before .before .before .before .before .before .before .clear .ensures);
+      clear = zeros-again (length (start .args .out .now)) _ (at-clear .clear .ensures);
     }
 
 enum-known-n : tie.Need-enum-known-n
@@ -64,18 +75,30 @@ same-length-4 c = search needs
 
 returns-4 : tie.Need-returns-4
 returns-4 c =
-    let ok = no-fault _ _ _ _ (sym (ap faultNumber (c .before .before .before .before .before .before .before .before .before .before .before .before .enum-told .given .1)) ∙ c .before .before .before .before .before .before .before .before .before .before .before .before .before .before .search-fault .ensures) in
-    let m = c .before .before .before .before .before .before .before .before .match-string-offset in
-    let z = zeros-length _ _ (c .before .before .before .before .before .before .before .before .before .before .before .before .before .before .before .before .before .clear .ensures) in
-    exit-short (in-area _ _ _ _ _ (ok .least) (c .before .before .before .before .before .before .before .before .before .before .before .if1 .left) (c .before .before .before .before .before .before .before .before .before .before .if2 .left) (m .ensures)) _ (sym (ap faultNumber (c .before .before .before .before .before .before .before .before .before .before .before .before .enum-told .given .1)) ∙ c .before .before .before .before .before .before .before .before .before .before .before .before .before .before .search-fault .ensures) _ z (owners-listed _ _ _ _ _) _ (c .before .before .before .before .enum-told2 .given .1) (omega (arith, m .kept)) (c .before .before .fill .ensures)
+    let at-match-string-offset = c .before .before .before .before .before .before .before .before in
+    let at-if2 = at-match-string-offset .before .before in
+    let at-if1 = at-if2 .before in
+    let at-enum-told = at-if1 .before in
+    let at-search-fault = at-enum-told .before .before in
+    let at-clear = at-search-fault .before .before .before in
+    let ok = no-fault _ _ _ _ (sym (ap faultNumber (at-enum-told .enum-told .given .1)) ∙ at-search-fault .search-fault .ensures) in
+    let m = at-match-string-offset .match-string-offset in
+    let z = zeros-length _ _ (at-clear .clear .ensures) in
+    exit-short (in-area _ _ (ok .least) (at-if1 .if1 .left) (at-if2 .if2 .left) (m .ensures)) _ (sym (ap faultNumber (at-enum-told .enum-told .given .1)) ∙ at-search-fault .search-fault .ensures) _ z (owners-listed _ _) _ (c .before .before .before .before .enum-told2 .given .1) (omega (arith, m .kept)) (c .before .before .fill .ensures)
 
 same-length-5 : tie.Need-same-length-5
 same-length-5 c = search needs
 
 returns-5 : tie.Need-returns-5
 returns-5 c =
-    let ok = no-fault _ _ _ _ (sym (ap faultNumber (c .before .before .before .before .before .before .before .before .before .enum-told .given .1)) ∙ c .before .before .before .before .before .before .before .before .before .before .before .search-fault .ensures) in
-    exit-all (in-area _ _ _ _ _ (ok .least) (c .before .before .before .before .before .before .before .before .if1 .left) (c .before .before .before .before .before .before .before .if2 .left) (c .before .before .before .before .before .match-string-offset .ensures)) _ (sym (ap faultNumber (c .before .before .before .before .before .before .before .before .before .enum-told .given .1)) ∙ c .before .before .before .before .before .before .before .before .before .before .before .search-fault .ensures) _ (zeros-length _ _ (c .before .before .before .before .before .before .before .before .before .before .before .before .before .before .clear .ensures)) _ (c .before .n .given .1)
+    let at-match-string-offset = c .before .before .before .before .before in
+    let at-if2 = at-match-string-offset .before .before in
+    let at-if1 = at-if2 .before in
+    let at-enum-told = at-if1 .before in
+    let at-search-fault = at-enum-told .before .before in
+    let at-clear = at-search-fault .before .before .before in
+    let ok = no-fault _ _ _ _ (sym (ap faultNumber (at-enum-told .enum-told .given .1)) ∙ at-search-fault .search-fault .ensures) in
+    exit-all (in-area _ _ (ok .least) (at-if1 .if1 .left) (at-if2 .if2 .left) (at-match-string-offset .match-string-offset .ensures)) _ (sym (ap faultNumber (at-enum-told .enum-told .given .1)) ∙ at-search-fault .search-fault .ensures) _ (zeros-length _ _ (at-clear .clear .ensures)) _ (c .before .n .given .1)
 
 pub locate-spec : {M : Type 1} → statement M
 locate-spec =

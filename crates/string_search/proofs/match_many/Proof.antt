@@ -1,6 +1,8 @@
+-- Marks that are all zero hold none.
+-- Assumes nothing.
 use borrow.Author.Needs.{needs}
 use native.Mathlib.Omega.{arith}
-use Rattle.marked_set.proofs.Marking.{blank}
+use Rattle.index_set.proofs.Marking.{blank}
 use Rattle.string_search.proofs.match_many.Statement.{statement}
 use Rattle.string_search.proofs.match_many.Tie as tie
 
@@ -8,7 +10,9 @@ slice-aggregate-match-marked : tie.Need-slice-aggregate-match-marked
 slice-aggregate-match-marked c = search needs
 
 match-marked-requires : tie.Need-match-marked-requires
-match-marked-requires c κs = (c .before .before .before .before .before .before .pre, blank 65536 (omega arith))
+match-marked-requires c κs =
+    let start = c .before .before .before .before .before .before in
+    (start .pre, blank 65536 (omega arith))
 
 same-length : tie.Need-same-length
 same-length c = search needs

@@ -1,7 +1,9 @@
+-- A find without an owner changes nothing; the index of another joins the set.
+-- Assumes nothing.
 use borrow.Author.Needs.{needs}
 use mathlib.Core.Path.{refl, sym}
 use Rattle.words.proofs.Shared.{met}
-use Rattle.string_search.specs.Search.{joined, passed}
+use Rattle.string_search.specs.Steps.{joined, passed}
 use Rattle.string_search.proofs.match_step.Statement.{statement}
 use Rattle.string_search.proofs.match_step.Tie as tie
 
@@ -27,7 +29,10 @@ same-length-2 : tie.Need-same-length-2
 same-length-2 c = search needs
 
 returns-2 : tie.Need-returns-2
-returns-2 c = joined _ (sym (met (c .before .before .before .before .before .before .before .before .index .given .1) (c .before .before .before .before .before .before .before .before .before .before .owner-of .ensures))) (c .before .before .before .before .add .ensures)
+returns-2 c =
+    let at-index = c .before .before .before .before .before .before .before .before in
+    let at-owner-of = at-index .before .before in
+    joined _ (sym (met (at-index .index .given .1) (at-owner-of .owner-of .ensures))) (c .before .before .before .before .add .ensures)
 
 pub match-step-spec : {M : Type 1} → statement M
 match-step-spec =

@@ -1,7 +1,7 @@
 -- `string_search::next_find` meets its contract: between two places of the query's first and last byte no occurrence stands.
 -- Assumes nothing.
 use Rattle.string_search.proofs.Finds.{Ahead, nearer, ahead-start, ahead-next, ahead-found, ahead-none}
-use Rattle.string_search.specs.Finds.{at-place, no-more}
+use Rattle.string_search.specs.Steps.{at-place, no-more}
 use mathlib.Core.Path.{refl}
 use Prim.Native.Nat.{_-_}
 use borrow.Author.Needs.{needs}
@@ -28,7 +28,8 @@ pair-requires c κs = search needs
 
 loop-holds : tie.Need-loop-holds Inv-loop μ-loop
 loop-holds c =
-    let p = c .before .before .before .before .before .pre in
+    let start = c .before .before .before .before .before in
+    let p = start .pre in
     ahead-start (p .1) (p .0 .inside) (c .pair .ensures)
 
 add-loop : tie.Need-add-loop Inv-loop μ-loop
@@ -39,7 +40,8 @@ stands-at-requires c κs = search needs
 
 returns : tie.Need-returns Inv-loop μ-loop
 returns c =
-    let p = c .before .before .before .before .before .before .before .before .before .pre in
+    let start = c .before .before .before .before .before .before .before .before .before in
+    let p = start .pre in
     let k = c .before .before .before .loop in
     at-place _ refl (ahead-found (p .1) (p .0 .inside) (k .inv) (c .before .before .loop-test .taken) (c .before .stands-at .ensures .yes (c .if1 .taken)))
 
@@ -51,18 +53,21 @@ pair-requires-2 c κs = search needs
 
 loop-less : tie.Need-loop-less Inv-loop μ-loop
 loop-less c =
-    let p = c .before .before .before .before .before .before .before .before .before .before .pre in
+    let start = c .before .before .before .before .before .before .before .before .before .before in
+    let p = start .pre in
     nearer (c .before .before .before .before .loop .at) _ (p .0 .inside) (c .before .before .before .loop-test .taken) (c .pair2 .ensures)
 
 loop-again : tie.Need-loop-again Inv-loop μ-loop
 loop-again c =
-    let p = c .before .before .before .before .before .before .before .before .before .before .pre in
+    let start = c .before .before .before .before .before .before .before .before .before .before in
+    let p = start .pre in
     let k = c .before .before .before .before .loop in
     ahead-next (p .1) (p .0 .inside) (k .inv) (c .before .before .before .loop-test .taken) (c .before .before .stands-at .ensures .no (c .before .if1 .left)) (c .pair2 .ensures)
 
 returns-2 : tie.Need-returns-2 Inv-loop μ-loop
 returns-2 c =
-    let p = c .before .before .before .before .before .before .before .pre in
+    let start = c .before .before .before .before .before .before .before in
+    let p = start .pre in
     no-more refl (ahead-none (p .1) (p .0 .inside) (c .before .loop .inv) (c .loop-test .left))
 
 pub next-find-spec : {M : Type 1} → statement M

@@ -1,4 +1,6 @@
-use Rattle.string_search.proofs.Keys.{owner-none, owner-at}
+-- The place of the least key past the find is found by halving, and the key before it owns.
+-- Assumes nothing.
+use Rattle.string_search.proofs.Owners.{owner-none, owner-at}
 use borrow.Author.Needs.{needs}
 use Rattle.string_search.proofs.owner_of.Statement.{statement}
 use Rattle.string_search.proofs.owner_of.Tie as tie

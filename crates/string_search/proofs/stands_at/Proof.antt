@@ -1,4 +1,7 @@
-use Rattle.string_search.proofs.Finds.{decided-yes, decided-no, stands-bytes, byte-stands}
+-- The bytes before k agree.
+-- Assumes nothing.
+use Rattle.word_set.proofs.Decides.{decided-yes, decided-no}
+use Rattle.memchr.proofs.Occurs.{stands-bytes, byte-stands}
 use lib.ListN.{length, getD}
 use borrow.Author.Count.{below-more}
 use mathlib.Core.Path.{_≡_}
@@ -28,7 +31,8 @@ shared-slice-read-if1-2 c = search needs
 
 returns : tie.Need-returns Inv-loop μ-loop
 returns c =
-    let a = c .before .before .before .before .before .args in
+    let start = c .before .before .before .before .before in
+    let a = start .args in
     let k = c .before .before .before .before .loop .k in
     decided-no (λ st. c .if1 .taken (byte-stands (a .file .now) (a .query .now) (a .at) k (c .before .before .before .loop-test .taken) st))
 

@@ -1,3 +1,6 @@
+-- `text_in::digits_end` meets its contract: the digits passed and those that follow here are the digits at the place, and the first byte that
+-- is none ends them.
+-- Assumes nothing.
 use Prim.Native.Nat.{_+_, _-_, _≤_}
 use mathlib.Core.Path.{_≡_, refl}
 use lib.ListN.{length, drop}
@@ -29,7 +32,8 @@ returns c =
 
 returns-2 : tie.Need-returns-2 Inv-loop μ-loop
 returns-2 c =
-    let t = c .before .before .before .before .before .args .text .now in
+    let at-start = c .before .before .before .before .before in
+    let t = at-start .args .text .now in
     let i = c .before .before .before .before .loop .i in
     let q = c .before .before .before .before .loop .inv in
     omega (arith, leading-high t i (omega arith) (omega arith) (omega arith))
@@ -42,7 +46,8 @@ loop-less c = search needs
 
 loop-again : tie.Need-loop-again Inv-loop μ-loop
 loop-again c =
-    let t = c .before .before .before .before .before .args .text .now in
+    let at-start = c .before .before .before .before .before in
+    let t = at-start .args .text .now in
     let i = c .before .before .before .before .loop .i in
     let q = c .before .before .before .before .loop .inv in
     (omega arith, omega (arith, leading-more t i (omega arith) (omega arith) (omega arith)))

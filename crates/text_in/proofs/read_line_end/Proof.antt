@@ -1,3 +1,5 @@
+-- `text_in::read_line_end` meets its contract: each way out is a case of `lineEnd`.
+-- Assumes nothing.
 use native.Mathlib.Omega.{arith}
 use Rattle.text_in.proofs.Laws.{line-last, line-past, line-feed, line-other}
 use borrow.Author.Needs.{needs}

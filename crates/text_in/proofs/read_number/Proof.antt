@@ -1,3 +1,5 @@
+-- `text_in::read_number` meets its contract: the digits' end and their value are those of `numberAt`, and each way out is one of its cases.
+-- Assumes nothing.
 use native.Mathlib.Omega.{arith}
 use Rattle.words.proofs.Shared.{met}
 use Rattle.text_in.proofs.Laws.{number-past, number-none, number-large, number-some, digits-inside}
@@ -29,7 +31,9 @@ returns-3 : tie.Need-returns-3
 returns-3 c = number-large _ _ _ (c .before .before .before .before .digits-end .ensures) (c .before .before .before .if2 .left) (met (c .enum-told .given .1) (c .before .before .value .ensures))
 
 returns-4 : tie.Need-returns-4
-returns-4 c = number-some _ _ _ (c .before .before .before .before .before .digits-end .ensures) _ (c .before .before .before .before .if2 .left) (met (c .before .v .given .1) (c .before .before .before .value .ensures))
+returns-4 c =
+    let at-digits-end = c .before .before .before .before .before in
+    number-some _ _ _ (at-digits-end .digits-end .ensures) _ (c .before .before .before .before .if2 .left) (met (c .before .v .given .1) (c .before .before .before .value .ensures))
 
 pub read-number-spec : {M : Type 1} → statement M
 read-number-spec =

@@ -1,3 +1,5 @@
+-- `text_in::read_word` meets its contract: the letters left, from the place reached, answer as all letters do from the first place.
+-- Assumes nothing.
 use Prim.Native.Nat.{_-_}
 use mathlib.Core.Path.{_≡_, refl, _∙_}
 use lib.ListN.{length, drop}
@@ -31,8 +33,10 @@ shared-slice-read-if2-2 c = search needs
 
 returns-2 : tie.Need-returns-2 Inv-loop μ-loop
 returns-2 c =
-    let a = c .before .before .before .before .before .before .args in
-    let l = c .before .before .before .before .before .loop in
+    let at-loop = c .before .before .before .before .before in
+    let at-start = at-loop .before in
+    let a = at-start .args in
+    let l = at-loop .loop in
     word-other (a .letters .now) (a .text .now) (l .k) (l .i) (omega arith) (omega arith) (c .if2 .taken) ∙ l .inv
 
 add-i : tie.Need-add-i Inv-loop μ-loop
@@ -46,8 +50,10 @@ loop-less c = search needs
 
 loop-again : tie.Need-loop-again Inv-loop μ-loop
 loop-again c =
-    let a = c .before .before .before .before .before .before .args in
-    let l = c .before .before .before .before .before .loop in
+    let at-loop = c .before .before .before .before .before in
+    let at-start = at-loop .before in
+    let a = at-start .args in
+    let l = at-loop .loop in
     word-more (a .letters .now) (a .text .now) (l .k) (l .i) (omega arith) (omega arith) (c .if2 .left) ∙ l .inv
 
 returns-3 : tie.Need-returns-3 Inv-loop μ-loop

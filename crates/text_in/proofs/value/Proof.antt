@@ -1,3 +1,6 @@
+-- `text_in::value` meets its contract: the value so far with the digits left after it is the value of all; once it passes 2^32 - 1 it stays
+-- above.
+-- Assumes nothing.
 use Prim.Native.Nat.{ℕ, _+_, _-_, _*_, _≤_, _<_}
 use mathlib.Core.Path.{_≡_, refl, sym, ap, _∙_}
 use lib.Seq.{slice}
@@ -31,8 +34,9 @@ add-v c = search needs
 
 returns : tie.Need-returns Inv-loop μ-loop
 returns c =
-    let s = c .before .before .before .before .before .before .args .text .now in
-    let e = c .before .before .before .before .before .before .args .end in
+    let at-start = c .before .before .before .before .before .before in
+    let s = at-start .args .text .now in
+    let e = at-start .args .end in
     let l = c .before .before .before .before .loop in
     let d = c .before .digit .ensures in
     let m = value-more s (l .v) (l .i) e (omega arith) (omega arith) in
@@ -48,8 +52,9 @@ loop-less c = search needs
 
 loop-again : tie.Need-loop-again Inv-loop μ-loop
 loop-again c =
-    let s = c .before .before .before .before .before .before .args .text .now in
-    let e = c .before .before .before .before .before .before .args .end in
+    let at-start = c .before .before .before .before .before .before in
+    let s = at-start .args .text .now in
+    let e = at-start .args .end in
     let l = c .before .before .before .before .loop in
     let d = c .before .digit .ensures in
     let m = value-more s (l .v) (l .i) e (omega arith) (omega arith) in (

@@ -1,3 +1,5 @@
+-- `text_out::end_line` meets its contract: a line feed that is lost lies past the bytes, and then all are cleared.
+-- Assumes nothing.
 use native.Mathlib.Omega.{arith}
 use Rattle.text_out.proofs.Laws.{ends-fit, ends-over}
 use borrow.Author.Needs.{needs}
@@ -17,7 +19,9 @@ same-length : tie.Need-same-length
 same-length c = search needs
 
 returns : tie.Need-returns
-returns c = ends-over _ _ (c .before .before .before .before .before .before .before .put .last .0) _ (c .before .before .before .before .before .before .before .put .ensures) _ (omega arith) (c .before .before .clear-bytes .ensures)
+returns c =
+    let at-put = c .before .before .before .before .before .before .before in
+    ends-over _ _ (at-put .put .last .0) _ (at-put .put .ensures) _ (omega arith) (c .before .before .clear-bytes .ensures)
 
 same-length-2 : tie.Need-same-length-2
 same-length-2 c = search needs

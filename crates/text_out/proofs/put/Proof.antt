@@ -1,3 +1,5 @@
+-- `text_out::put` meets its contract: the bytes passed are written, and the place is the one after them.
+-- Assumes nothing.
 use mathlib.Core.Path.{_≡_, refl, ap, _∙_}
 use Prim.Native.Nat.{_-_, _≤_}
 use lib.ListN.{length, take, length-set}
@@ -32,8 +34,10 @@ loop-less c = search needs
 
 loop-again : tie.Need-loop-again Inv-loop μ-loop
 loop-again c =
-    let l = c .before .before .before .before .before .before .loop in
-    let a = c .before .before .before .before .before .before .before .before .before .args in
+    let at-loop = c .before .before .before .before .before .before in
+    let at-start = at-loop .before .before .before in
+    let l = at-loop .loop in
+    let a = at-start .args in
     let e = c .before .before .put-byte .ensures in
     (omega arith, ap length (e .written) ∙ length-set (l .out) (l .p) _ ∙ l .inv .1, writes-next (a .out .now) (a .at) (a .bytes .now) (l .out) (l .p) (l .i) _ _ (omega arith) (l .inv .2) e)
 

@@ -1,3 +1,5 @@
+-- `text_out::put_byte` meets its contract: a byte inside is stored, and one past the end is lost.
+-- Assumes nothing.
 use Rattle.text_out.proofs.Laws.{byte-fits, byte-over}
 use borrow.Author.Needs.{needs}
 use Rattle.text_out.proofs.put_byte.Statement.{statement}

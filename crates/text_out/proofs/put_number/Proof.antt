@@ -1,3 +1,5 @@
+-- `text_out::put_number` meets its contract: the digits that `io::decimal` makes are the number's.
+-- Assumes nothing.
 use mathlib.Core.Path.{_∙_}
 use native.Mathlib.Omega.{arith}
 use Rattle.text_out.proofs.Laws.{decimal-is}
@@ -22,8 +24,10 @@ same-length c = search needs
 
 returns : tie.Need-returns
 returns c =
-    let d = c .before .before .before .before .before .decimal .ensures in
-    let a = c .before .before .before .before .before .before .before .before .args in
+    let at-decimal = c .before .before .before .before .before in
+    let at-start = at-decimal .before .before .before in
+    let d = at-decimal .decimal .ensures in
+    let a = at-start .args in
     rw (← (d .1 .1 ∙ decimal-is (a .n) _ (omega arith) (d .1 .0))) (c .before .before .put .ensures)
 
 pub put-number-spec : {M : Type 1} → statement M

@@ -1,3 +1,5 @@
+-- Only indices are to be shown to be inside.
+-- Assumes nothing.
 use borrow.Author.Needs.{needs}
 use Prim.Native.Nat.{_-_, _≤_}
 use lib.ListN.{length}

@@ -1,7 +1,11 @@
+-- A law for each way out; what was found of the strings stands at the front of their words, and is cleared once the types are collected.
+-- Assumes nothing.
 use Rattle.type_search.proofs.Exits.{held-fit, exit-fault, exit-empty, exit-strings, exit-types, exit-done}
 use Rattle.type_search.proofs.Types.{asked-fault}
-use Rattle.string_search.specs.Search.{faultNumber}
-use Rattle.rising.proofs.Found.{zeros-again}
+use Rattle.word_set.specs.Found.{faultNumber}
+use Rattle.word_set.proofs.Found.{zeros-again}
+use Rattle.groups.specs.Built.{groupWords}
+use Rattle.string_search.specs.Search.{area}
 use lib.Seq.{length-take-le}
 use lib.ListN.{length}
 use mathlib.Core.Path.{ap, sym, _∙_}
@@ -30,10 +34,13 @@ same-length-2 c = search needs
 
 returns : tie.Need-returns
 returns c =
-    let a = c .before .before .before .before .before .before .before .before .before .before .before .before .before .before .before .before .before .before .before .args in
-    let zs = c .before .before .before .before .before .before .before .before .before .before .clear .ensures in
-    let zo = c .before .before .before .before .before .before .clear2 .ensures in
-    exit-fault (a .file .now) (a .keys .now) (a .start) (a .end) (a .query .now) (a .str-offsets .now) (a .type-idxs .now) (a .strings .now) (a .out .now) _ _ zs zo (c .before .fault .given .0 .0) (sym (ap faultNumber (c .before .fault .given .1)) ∙ c .before .before .before .search-fault .ensures)
+    let at-clear2 = c .before .before .before .before .before .before in
+    let at-clear = at-clear2 .before .before .before .before in
+    let start = at-clear .before .before .before .before .before .before .before .before .before in
+    let a = start .args in
+    let zs = at-clear .clear .ensures in
+    let zo = at-clear2 .clear2 .ensures in
+    exit-fault (area (a .file .now) (a .keys .now) (a .start) (a .end)) (a .query .now) (groupWords (a .str-offsets .now) (a .type-idxs .now)) (a .strings .now) (a .out .now) _ _ zs zo (c .before .fault .given .0 .0) (sym (ap faultNumber (c .before .fault .given .1)) ∙ c .before .before .before .search-fault .ensures)
 
 enum-told : tie.Need-enum-told
 enum-told c = search needs
@@ -46,10 +53,13 @@ same-length-4 c = search needs
 
 returns-2 : tie.Need-returns-2
 returns-2 c =
-    let a = c .before .before .before .before .before .before .before .before .before .before .before .before .before .before .before .before .before .before .before .args in
-    let zs = c .before .before .before .before .before .before .before .before .before .before .clear .ensures in
-    let zo = c .before .before .before .before .before .before .clear2 .ensures in
-    exit-empty (a .file .now) (a .keys .now) (a .start) (a .end) (a .query .now) (a .str-offsets .now) (a .type-idxs .now) (a .strings .now) (a .out .now) _ _ zs zo (sym (ap faultNumber (c .before .enum-told .given .1)) ∙ c .before .before .before .search-fault .ensures) (c .if1 .taken)
+    let at-clear2 = c .before .before .before .before .before .before in
+    let at-clear = at-clear2 .before .before .before .before in
+    let start = at-clear .before .before .before .before .before .before .before .before .before in
+    let a = start .args in
+    let zs = at-clear .clear .ensures in
+    let zo = at-clear2 .clear2 .ensures in
+    exit-empty (area (a .file .now) (a .keys .now) (a .start) (a .end)) (a .query .now) (groupWords (a .str-offsets .now) (a .type-idxs .now)) (a .strings .now) (a .out .now) _ _ zs zo (sym (ap faultNumber (c .before .enum-told .given .1)) ∙ c .before .before .before .search-fault .ensures) (c .if1 .taken)
 
 locate-requires : tie.Need-locate-requires
 locate-requires c κs = search needs
@@ -68,19 +78,32 @@ same-length-6 c = search needs
 
 returns-3 : tie.Need-returns-3
 returns-3 c =
-    let a = c .before .before .before .before .before .before .before .before .before .before .before .before .before .before .before .before .before .before .before .before .before .before .before .before .before .args in
-    let zs = c .before .before .before .before .before .before .before .before .before .before .before .before .before .before .before .before .clear .ensures in
-    let zo = c .before .before .before .before .before .before .before .before .before .before .before .before .clear2 .ensures in
-    exit-strings (a .file .now) (a .keys .now) (a .start) (a .end) (a .query .now) (a .str-offsets .now) (a .type-idxs .now) (a .strings .now) (a .out .now) _ _ zs zo (sym (ap faultNumber (c .before .before .before .before .before .before .before .enum-told .given .1)) ∙ c .before .before .before .before .before .before .before .before .before .search-fault .ensures) (c .before .before .before .before .locate .ensures) (asked-fault _ _ _ (c .before .before .before .before .before .before .if1 .left) (sym (ap faultNumber (c .before .before .before .before .before .before .before .enum-told .given .1)) ∙ c .before .before .before .before .before .before .before .before .before .search-fault .ensures)) (c .enum-told2 .given .0 .0) (c .enum-told2 .given .1)
+    let at-if1 = c .before .before .before .before .before .before in
+    let at-enum-told = at-if1 .before in
+    let at-search-fault = at-enum-told .before .before in
+    let at-clear2 = at-search-fault .before .before .before in
+    let at-clear = at-clear2 .before .before .before .before in
+    let start = at-clear .before .before .before .before .before .before .before .before .before in
+    let a = start .args in
+    let zs = at-clear .clear .ensures in
+    let zo = at-clear2 .clear2 .ensures in
+    exit-strings (area (a .file .now) (a .keys .now) (a .start) (a .end)) (a .query .now) (groupWords (a .str-offsets .now) (a .type-idxs .now)) (a .strings .now) (a .out .now) _ _ zs zo (sym (ap faultNumber (at-enum-told .enum-told .given .1)) ∙ at-search-fault .search-fault .ensures) (c .before .before .before .before .locate .ensures) (asked-fault _ _ _ (at-if1 .if1 .left) (sym (ap faultNumber (at-enum-told .enum-told .given .1)) ∙ at-search-fault .search-fault .ensures)) (c .enum-told2 .given .0 .0) (c .enum-told2 .given .1)
 
 slice-reshare-prefix-collect : tie.Need-slice-reshare-prefix-collect
-slice-reshare-prefix-collect c = held-fit (c .before .before .before .before .before .locate .ensures) _ (c .before .n .given .1)
+slice-reshare-prefix-collect c =
+    let at-locate = c .before .before .before .before .before in
+    held-fit (at-locate .locate .ensures) _ (c .before .n .given .1)
 
 slice-aggregate-collect : tie.Need-slice-aggregate-collect
-slice-aggregate-collect c = sym (length-take-le _ _ (held-fit (c .before .before .before .before .before .before .locate .ensures) _ (c .before .before .n .given .1)))
+slice-aggregate-collect c =
+    let at-locate = c .before .before .before .before .before .before in
+    sym (length-take-le _ _ (held-fit (at-locate .locate .ensures) _ (c .before .before .n .given .1)))
 
 collect-requires : tie.Need-collect-requires
-collect-requires c κs = zeros-again (length (c .before .before .before .before .before .before .before .before .before .before .before .before .before .before .before .before .before .before .before .before .before .before .before .before .before .before .before .before .args .out .now)) _ (c .before .before .before .before .before .before .before .before .before .before .before .before .before .before .before .clear2 .ensures)
+collect-requires c κs =
+    let at-clear2 = c .before .before .before .before .before .before .before .before .before .before .before .before .before .before .before in
+    let start = at-clear2 .before .before .before .before .before .before .before .before .before .before .before .before .before in
+    zeros-again (length (start .args .out .now)) _ (at-clear2 .clear2 .ensures)
 
 fill-requires : tie.Need-fill-requires
 fill-requires c κs = search needs
@@ -95,17 +118,30 @@ clear-requires-3 : tie.Need-clear-requires-3
 clear-requires-3 c κs = search needs
 
 same-length-7 : tie.Need-same-length-7
-same-length-7 c = omega (arith, c .before .before .before .before .before .before .before .before .fill .kept, c .before .before .before .before .before .before .before .before .before .before .before .before .before .before .before .before .before .before .before .before .locate .kept, c .before .before .before .before .before .before .before .before .before .before .before .before .before .before .before .before .before .before .before .before .before .before .before .before .before .before .before .before .before .before .before .before .clear .kept)
+same-length-7 c =
+    let at-fill = c .before .before .before .before .before .before .before .before in
+    let at-locate = at-fill .before .before .before .before .before .before .before .before .before .before .before .before in
+    let at-clear = at-locate .before .before .before .before .before .before .before .before .before .before .before .before in
+    omega (arith, at-fill .fill .kept, at-locate .locate .kept, at-clear .clear .kept)
 
 same-length-8 : tie.Need-same-length-8
 same-length-8 c = search needs
 
 returns-4 : tie.Need-returns-4
 returns-4 c =
-    let a = c .before .before .before .before .before .before .before .before .before .before .before .before .before .before .before .before .before .before .before .before .before .before .before .before .before .before .before .before .before .before .before .before .before .before .before .before .before .before .before .before .before .args in
-    let zs = c .before .before .before .before .before .before .before .before .before .before .before .before .before .before .before .before .before .before .before .before .before .before .before .before .before .before .before .before .before .before .before .before .clear .ensures in
-    let zo = c .before .before .before .before .before .before .before .before .before .before .before .before .before .before .before .before .before .before .before .before .before .before .before .before .before .before .before .before .clear2 .ensures in
-    exit-types (a .file .now) (a .keys .now) (a .start) (a .end) (a .query .now) (a .str-offsets .now) (a .type-idxs .now) (a .strings .now) (a .out .now) _ _ zs zo (sym (ap faultNumber (c .before .before .before .before .before .before .before .before .before .before .before .before .before .before .before .before .before .before .before .before .before .before .before .enum-told .given .1)) ∙ c .before .before .before .before .before .before .before .before .before .before .before .before .before .before .before .before .before .before .before .before .before .before .before .before .before .search-fault .ensures) (c .before .before .before .before .before .before .before .before .before .before .before .before .before .before .before .before .before .before .before .before .locate .ensures) _ (c .before .before .before .before .before .before .before .before .before .before .before .before .before .before .before .before .n .given .1) _ (c .before .before .before .before .before .before .before .before .fill .ensures) (omega (arith, c .before .before .before .before .before .before .before .before .before .before .before .before .before .before .before .before .before .before .before .before .locate .kept)) (c .before .before .before .before .before .before .before .before .before .before .before .before .collect .ensures) _ (c .before .before .before .before .enum-told3 .given .1) (omega (arith, c .before .before .before .before .before .before .before .before .before .before .before .before .collect .kept)) (c .before .before .clear3 .ensures)
+    let at-fill = c .before .before .before .before .before .before .before .before in
+    let at-collect = at-fill .before .before .before .before in
+    let at-n = at-collect .before .before .before .before in
+    let at-locate = at-n .before .before .before .before in
+    let at-enum-told = at-locate .before .before .before in
+    let at-search-fault = at-enum-told .before .before in
+    let at-clear2 = at-search-fault .before .before .before in
+    let at-clear = at-clear2 .before .before .before .before in
+    let start = at-clear .before .before .before .before .before .before .before .before .before in
+    let a = start .args in
+    let zs = at-clear .clear .ensures in
+    let zo = at-clear2 .clear2 .ensures in
+    exit-types (area (a .file .now) (a .keys .now) (a .start) (a .end)) (a .query .now) (groupWords (a .str-offsets .now) (a .type-idxs .now)) (a .strings .now) (a .out .now) _ _ zs zo (sym (ap faultNumber (at-enum-told .enum-told .given .1)) ∙ at-search-fault .search-fault .ensures) (at-locate .locate .ensures) _ (at-n .n .given .1) _ (at-fill .fill .ensures) (omega (arith, at-locate .locate .kept)) (at-collect .collect .ensures) _ (c .before .before .before .before .enum-told3 .given .1) (omega (arith, at-collect .collect .kept)) (c .before .before .clear3 .ensures)
 
 same-length-9 : tie.Need-same-length-9
 same-length-9 c = search needs
@@ -115,10 +151,19 @@ same-length-10 c = search needs
 
 returns-5 : tie.Need-returns-5
 returns-5 c =
-    let a = c .before .before .before .before .before .before .before .before .before .before .before .before .before .before .before .before .before .before .before .before .before .before .before .before .before .before .before .before .before .before .before .before .before .before .before .before .before .before .args in
-    let zs = c .before .before .before .before .before .before .before .before .before .before .before .before .before .before .before .before .before .before .before .before .before .before .before .before .before .before .before .before .before .clear .ensures in
-    let zo = c .before .before .before .before .before .before .before .before .before .before .before .before .before .before .before .before .before .before .before .before .before .before .before .before .before .clear2 .ensures in
-    exit-done (a .file .now) (a .keys .now) (a .start) (a .end) (a .query .now) (a .str-offsets .now) (a .type-idxs .now) (a .strings .now) (a .out .now) _ _ zs zo (sym (ap faultNumber (c .before .before .before .before .before .before .before .before .before .before .before .before .before .before .before .before .before .before .before .before .enum-told .given .1)) ∙ c .before .before .before .before .before .before .before .before .before .before .before .before .before .before .before .before .before .before .before .before .before .before .search-fault .ensures) (c .before .before .before .before .before .before .before .before .before .before .before .before .before .before .before .before .before .locate .ensures) _ (c .before .before .before .before .before .before .before .before .before .before .before .before .before .n .given .1) _ (c .before .before .before .before .before .fill .ensures) (omega (arith, c .before .before .before .before .before .before .before .before .before .before .before .before .before .before .before .before .before .locate .kept)) (c .before .before .before .before .before .before .before .before .before .collect .ensures) _ (c .before .found .given .1)
+    let at-fill = c .before .before .before .before .before in
+    let at-collect = at-fill .before .before .before .before in
+    let at-n = at-collect .before .before .before .before in
+    let at-locate = at-n .before .before .before .before in
+    let at-enum-told = at-locate .before .before .before in
+    let at-search-fault = at-enum-told .before .before in
+    let at-clear2 = at-search-fault .before .before .before in
+    let at-clear = at-clear2 .before .before .before .before in
+    let start = at-clear .before .before .before .before .before .before .before .before .before in
+    let a = start .args in
+    let zs = at-clear .clear .ensures in
+    let zo = at-clear2 .clear2 .ensures in
+    exit-done (area (a .file .now) (a .keys .now) (a .start) (a .end)) (a .query .now) (groupWords (a .str-offsets .now) (a .type-idxs .now)) (a .strings .now) (a .out .now) _ _ zs zo (sym (ap faultNumber (at-enum-told .enum-told .given .1)) ∙ at-search-fault .search-fault .ensures) (at-locate .locate .ensures) _ (at-n .n .given .1) _ (at-fill .fill .ensures) (omega (arith, at-locate .locate .kept)) (at-collect .collect .ensures) _ (c .before .found .given .1)
 
 pub locate-spec : {M : Type 1} → statement M
 locate-spec =

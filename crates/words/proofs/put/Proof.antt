@@ -1,3 +1,5 @@
+-- `words::put` meets its contract: inside the slice it is the store, and a store past the end changes nothing.
+-- Assumes nothing.
 use mathlib.Core.Path.{sym}
 use lib.Seq.{set-out}
 use borrow.Author.Needs.{needs}

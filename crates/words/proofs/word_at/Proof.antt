@@ -1,3 +1,5 @@
+-- `words::word_at` meets its contract: past the end the default is what is read.
+-- Assumes nothing.
 use mathlib.Core.Path.{sym}
 use lib.ListN.{List·getD-eq-default}
 use borrow.Author.Needs.{needs}

@@ -1,94 +1,121 @@
--- `method_head` meets its contract: the sum is tested once its number is read, before the two numbers behind it.
+-- `method_head` meets its contract: the sum is tested once its number is read, before the two numbers after it.
 -- Assumes nothing.
+use Rattle.class_data.proofs.Laws.{head-no1, head-index, head-no2, head-no3, head-at}
+use Rattle.leb128.proofs.Laws.{fast-keeps}
+use Rattle.words.proofs.Shared.{met}
+use native.Mathlib.Omega.{arith}
 use borrow.Author.Needs.{needs}
 use Rattle.class_data.proofs.item.method_head.Statement.{statement}
 use Rattle.class_data.proofs.item.method_head.Tie as tie
-use native.Mathlib.Omega.{arith}
-use Rattle.words.proofs.Shared.{met}
-use Rattle.leb128.proofs.Laws.{fast-keeps}
-use Rattle.class_data.proofs.Laws.{head-off1, head-index, head-off2, head-off3, head-at}
 
 read-uleb128-fast-requires : tie.Need-read-uleb128-fast-requires
 read-uleb128-fast-requires c κs = search needs
 
+enum-known-r : tie.Need-enum-known-r
+enum-known-r c = search needs
+
 enum-known-diff : tie.Need-enum-known-diff
 enum-known-diff c = search needs
-
-enum-told : tie.Need-enum-told
-enum-told c = search needs
-
-returns : tie.Need-returns
-returns c = head-off1 _ _ _ (met (c .enum-told .given .1) (c .before .before .read-uleb128-fast .ensures))
 
 add-sum : tie.Need-add-sum
 add-sum c = search needs
 
-returns-2 : tie.Need-returns-2
-returns-2 c = head-index _ _ _ _ _ (met (c .before .before .diff .given .1) (c .before .before .before .before .read-uleb128-fast .ensures)) (omega arith)
+returns : tie.Need-returns
+returns c =
+    let at-diff = c .before .before in
+    head-index _ _ _ _ _ (met (at-diff .diff .given .1) (at-diff .before .before .read-uleb128-fast .ensures)) (omega arith)
 
 add-p : tie.Need-add-p
-add-p c = omega (arith, fast-keeps _ _ _ _ (met (c .before .before .diff .given .1) (c .before .before .before .before .read-uleb128-fast .ensures)))
+add-p c =
+    let at-diff = c .before .before in
+    omega (arith, fast-keeps _ _ _ _ (met (at-diff .diff .given .1) (at-diff .before .before .read-uleb128-fast .ensures)))
 
 read-uleb128-fast-requires-2 : tie.Need-read-uleb128-fast-requires-2
 read-uleb128-fast-requires-2 c κs = search needs
 
+enum-known-r-2 : tie.Need-enum-known-r-2
+enum-known-r-2 c = search needs
+
 enum-known-m : tie.Need-enum-known-m
 enum-known-m c = search needs
 
-enum-told-2 : tie.Need-enum-told-2
-enum-told-2 c = search needs
-
-returns-3 : tie.Need-returns-3
-returns-3 c = head-off2 _ _ _ _ _ (met (c .before .before .before .before .before .diff .given .1) (c .before .before .before .before .before .before .before .read-uleb128-fast .ensures)) (omega arith) (met (c .enum-told2 .given .1) (c .before .before .read-uleb128-fast2 .ensures))
-
 add-q : tie.Need-add-q
-add-q c = omega (arith, fast-keeps _ _ _ _ (met (c .before .m .given .1) (c .before .before .before .read-uleb128-fast2 .ensures)))
+add-q c =
+    let at-flags = c .before in
+    omega (arith, fast-keeps _ _ _ _ (met (at-flags .m .given .1) (at-flags .before .before .read-uleb128-fast2 .ensures)))
 
 read-uleb128-fast-requires-3 : tie.Need-read-uleb128-fast-requires-3
 read-uleb128-fast-requires-3 c κs = search needs
 
+enum-known-r-3 : tie.Need-enum-known-r-3
+enum-known-r-3 c = search needs
+
 enum-known-off : tie.Need-enum-known-off
 enum-known-off c = search needs
 
-enum-told-3 : tie.Need-enum-told-3
-enum-told-3 c = search needs
+add-next : tie.Need-add-next
+add-next c =
+    let at-off = c .before in
+    let at-entry = at-off .before .before .before .before .before .before .before .before .before .before .before .before .before in
+    omega (arith, fast-keeps _ _ _ _ (met (at-off .off .given .1) (at-off .before .before .read-uleb128-fast3 .ensures)), at-entry .fits)
+
+cast-code : tie.Need-cast-code
+cast-code c = search needs
+
+cast-t28 : tie.Need-cast-t28
+cast-t28 c = search needs
+
+returns-2 : tie.Need-returns-2
+returns-2 c =
+    let at-r = c .before in
+    head-no1 _ _ _ _ (met (at-r .r .given .1) (at-r .before .before .read-uleb128-fast .ensures))
+
+returns-3 : tie.Need-returns-3
+returns-3 c =
+    let at-r = c .before in
+    let at-if = at-r .before .before .before in
+    let at-diff = at-if .before .before in
+    head-no2 _ _ _ _ _ (met (at-diff .diff .given .1) (at-diff .before .before .read-uleb128-fast .ensures)) (omega arith) _ (met (at-r .r2 .given .1) (at-r .before .before .read-uleb128-fast2 .ensures))
 
 returns-4 : tie.Need-returns-4
-returns-4 c = head-off3 _ _ _ _ _ (met (c .before .before .before .before .before .before .before .before .before .diff .given .1) (c .before .before .before .before .before .before .before .before .before .before .before .read-uleb128-fast .ensures)) (omega arith) _ _ (met (c .before .before .before .before .m .given .1) (c .before .before .before .before .before .before .read-uleb128-fast2 .ensures)) (met (c .enum-told3 .given .1) (c .before .before .read-uleb128-fast3 .ensures))
-
-add-t22 : tie.Need-add-t22
-add-t22 c = omega (arith, fast-keeps _ _ _ _ (met (c .before .off .given .1) (c .before .before .before .read-uleb128-fast3 .ensures)))
-
-cast-t23 : tie.Need-cast-t23
-cast-t23 c = search needs
-
-cast-t24 : tie.Need-cast-t24
-cast-t24 c = search needs
+returns-4 c =
+    let at-r = c .before in
+    let at-flags = at-r .before .before .before .before in
+    let at-if = at-flags .before .before .before in
+    let at-diff = at-if .before .before in
+    head-no3 _ _ _ _ _ (met (at-diff .diff .given .1) (at-diff .before .before .read-uleb128-fast .ensures)) (omega arith) _ _ (met (at-flags .m .given .1) (at-flags .before .before .read-uleb128-fast2 .ensures)) _
+    (met (at-r .r3 .given .1) (at-r .before .before .read-uleb128-fast3 .ensures))
 
 returns-5 : tie.Need-returns-5
-returns-5 c = head-at _ _ _ _ _ (met (c .before .before .before .before .before .before .before .before .before .before .diff .given .1) (c .before .before .before .before .before .before .before .before .before .before .before .before .read-uleb128-fast .ensures)) (omega arith) _ _ (met (c .before .before .before .before .before .m .given .1) (c .before .before .before .before .before .before .before .read-uleb128-fast2 .ensures)) _ _ (met (c .before .off .given .1) (c .before .before .before .read-uleb128-fast3 .ensures))
+returns-5 c =
+    let at-off = c .before in
+    let at-flags = at-off .before .before .before .before in
+    let at-if = at-flags .before .before .before in
+    let at-diff = at-if .before .before in
+    head-at _ _ _ _ _ (met (at-diff .diff .given .1) (at-diff .before .before .read-uleb128-fast .ensures)) (omega arith) _ _ (met (at-flags .m .given .1) (at-flags .before .before .read-uleb128-fast2 .ensures)) _ _
+    (met (at-off .off .given .1) (at-off .before .before .read-uleb128-fast3 .ensures))
 
 pub method-head-spec : {M : Type 1} → statement M
 method-head-spec =
     tie.close
     (tie.spec
     read-uleb128-fast-requires
+    enum-known-r
     enum-known-diff
-    enum-told
-    returns
     add-sum
-    returns-2
+    returns
     add-p
     read-uleb128-fast-requires-2
+    enum-known-r-2
     enum-known-m
-    enum-told-2
-    returns-3
     add-q
     read-uleb128-fast-requires-3
+    enum-known-r-3
     enum-known-off
-    enum-told-3
+    add-next
+    cast-code
+    cast-t28
+    returns-2
+    returns-3
     returns-4
-    add-t22
-    cast-t23
-    cast-t24
     returns-5)

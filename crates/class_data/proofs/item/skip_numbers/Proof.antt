@@ -1,14 +1,14 @@
 -- `skip_numbers` meets its contract: each turn skips one number, so what is left to skip from here ends where it was to end.
 -- Assumes nothing.
+use Rattle.class_data.proofs.Laws.{skipped-again, skipped-no, skipped-end}
+use Rattle.class_data.specs.Walk.{skipped}
+use Rattle.leb128.proofs.Laws.{len-in}
+use Rattle.words.proofs.Shared.{met}
+use mathlib.Core.Path.{_≡_}
 use borrow.Author.Needs.{needs}
 use native.Mathlib.Omega.{arith}
 use Rattle.class_data.proofs.item.skip_numbers.Statement.{statement}
 use Rattle.class_data.proofs.item.skip_numbers.Tie as tie
-use Rattle.words.proofs.Shared.{met}
-use mathlib.Core.Path.{_≡_}
-use Rattle.leb128.proofs.Laws.{len-in}
-use Rattle.class_data.specs.Walk.{skipped}
-use Rattle.class_data.proofs.Laws.{skipped-again, skipped-off, skipped-end}
 
 abbrev Inv-loop : tie.InvT-loop
 Inv-loop buf pos n at₀ left₀ at left = skipped left buf at ≡ skipped n buf pos
@@ -25,14 +25,10 @@ read-uleb128-len-requires c κs = search needs
 enum-known-m : tie.Need-enum-known-m Inv-loop μ-loop
 enum-known-m c = search needs
 
-enum-told : tie.Need-enum-told Inv-loop μ-loop
-enum-told c = search needs
-
-returns : tie.Need-returns Inv-loop μ-loop
-returns c = skipped-off _ _ _ _ (omega arith) (met (c .enum-told .given .1) (c .before .before .read-uleb128-len .ensures)) (c .before .before .before .before .loop .inv)
-
 add-at : tie.Need-add-at Inv-loop μ-loop
-add-at c = omega (arith, len-in _ _ _ (met (c .before .m .given .1) (c .before .before .before .read-uleb128-len .ensures)))
+add-at c =
+    let at-m = c .before in
+    omega (arith, len-in _ _ _ (met (at-m .m .given .1) (at-m .before .before .read-uleb128-len .ensures)))
 
 sub-left : tie.Need-sub-left Inv-loop μ-loop
 sub-left c = search needs
@@ -41,7 +37,17 @@ loop-less : tie.Need-loop-less Inv-loop μ-loop
 loop-less c = search needs
 
 loop-again : tie.Need-loop-again Inv-loop μ-loop
-loop-again c = skipped-again _ _ _ _ _ (omega arith) (met (c .before .m .given .1) (c .before .before .before .read-uleb128-len .ensures)) (c .before .before .before .before .before .loop .inv)
+loop-again c =
+    let at-m = c .before in
+    skipped-again _ _ _ _ _ (omega arith) (met (at-m .m .given .1) (at-m .before .before .read-uleb128-len .ensures)) (at-m .before .before .before .before .loop .inv)
+
+enum-known-r : tie.Need-enum-known-r Inv-loop μ-loop
+enum-known-r c = search needs
+
+returns : tie.Need-returns Inv-loop μ-loop
+returns c =
+    let at-r = c .before in
+    skipped-no _ _ _ _ _ (omega arith) (met (at-r .r .given .1) (at-r .before .before .read-uleb128-len .ensures)) (at-r .before .before .before .before .loop .inv)
 
 returns-2 : tie.Need-returns-2 Inv-loop μ-loop
 returns-2 c = skipped-end _ _ _ _ (omega arith) (c .before .loop .inv)
@@ -55,10 +61,10 @@ skip-numbers-spec =
     loop-holds
     read-uleb128-len-requires
     enum-known-m
-    enum-told
-    returns
     add-at
     sub-left
     loop-less
     loop-again
+    enum-known-r
+    returns
     returns-2)

@@ -1,4 +1,4 @@
--- `put_three` meets its contract: three stores one behind another.
+-- `put_three` meets its contract: three stores one after another.
 -- Assumes nothing.
 use borrow.Author.Needs.{needs}
 use Rattle.class_data.proofs.parse.put_three.Statement.{statement}

@@ -1,9 +1,11 @@
--- `store` meets its contract: three words one behind another and a start word; a file of at most 2^24 bytes keeps all sums small.
+-- `store` meets its contract: three words one after another and a start word; a file of at most 2^24 bytes keeps all sums small.
 -- Assumes nothing.
 use borrow.Author.Needs.{needs}
 use Rattle.class_data.proofs.parse.store.Statement.{statement}
 use Rattle.class_data.proofs.parse.store.Tie as tie
 use native.Mathlib.Omega.{arith}
+use Rattle.class_data.specs.Stored.{codeWords}
+use Rattle.class_data.specs.Steps.{kept}
 use Rattle.class_data.proofs.Steps.{store-all}
 
 add-first : tie.Need-add-first
@@ -24,8 +26,8 @@ sub-put-three c = search needs
 put-three-requires : tie.Need-put-three-requires
 put-three-requires c κs = omega arith
 
-put-requires : tie.Need-put-requires
-put-requires c κs = search needs
+set-start-requires : tie.Need-set-start-requires
+set-start-requires c κs = search needs
 
 same-length : tie.Need-same-length
 same-length c = search needs
@@ -34,7 +36,10 @@ same-length-2 : tie.Need-same-length-2
 same-length-2 c = search needs
 
 returns : tie.Need-returns
-returns c = store-all _ _ _ _ _ _ _ _ (c .before .before .before .before .before .before .put-three .ensures) (c .before .before .put .ensures)
+returns c =
+    let at-three = c .before .before .before .before .before .before in
+    let a = at-three .before .before .before .before .args in
+    store-all (kept (a .k) (codeWords (a .triples .now) (a .starts .now))) _ _ _ _ (at-three .put-three .ensures) (c .before .before .set-start .ensures)
 
 pub store-spec : {M : Type 1} → statement M
 store-spec =
@@ -46,7 +51,7 @@ store-spec =
     add-put-three
     sub-put-three
     put-three-requires
-    put-requires
+    set-start-requires
     same-length
     same-length-2
     returns)

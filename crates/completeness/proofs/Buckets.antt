@@ -1,0 +1,81 @@
+-- The buckets of an array are the blocks that hold a byte of it. Those of different code items are disjoint, since 16 header bytes stand
+-- between two arrays; and all lie in the region, which runs from the least to the greatest.
+-- Assumes nothing.
+use Prim.Native.Nat.{ℕ, _+_, _*_, _≤_, _<_, min}
+use native.Mathlib.Omega.{arith}
+use mathlib.Core.Path.{_≡_, refl}
+use mathlib.Core.Logic.{_⊎_, inl, inr, ⊎-elim}
+use mathlib.Core.List.{List, [], _∷_, List·Memᴰ, List·Memᴰ·head, List·Memᴰ·tail, List·Memᴰ·not-nil, List·Memᴰ·cases-cons}
+use Rattle.dalvik.specs.CodeItem.{Code, start, stop}
+use Rattle.class_data.specs.Stored.{firstBucket, lastBucket}
+use Rattle.code_table.specs.Slots.{lowest, baseOf, topOf}
+use Rattle.completeness.specs.Completeness.{CoincideOrApart, BlockOf}
+use Rattle.completeness.specs.Completeness.CoincideOrApart.{coincide, ends-before, begins-after}
+use Rattle.completeness.proofs.Tests.{lt-or-le}
+
+-- b is a bucket of the array of c
+pub record InBuckets (c : Code) (b : ℕ) : Type 0 where
+  pub from-first : firstBucket c ≤ b
+  pub to-last : b ≤ lastBucket c
+
+pub block-of-array : (c : Code) (b : ℕ) → 0 < c .units → InBuckets c b → BlockOf c b
+block-of-array c b u i =
+    ⊎-elim
+    (λ (h : start c < b * 16). record { at = b * 16; from-start = omega arith; before-stop = omega (arith, i .to-last); holds = omega arith })
+    (λ (h : b * 16 ≤ start c). record { at = start c; from-start = omega arith; before-stop = omega arith; holds = omega (arith, i .from-first) })
+    (lt-or-le (start c) (b * 16))
+
+-- ---- of two arrays
+apart-buckets : (c d : Code) (b : ℕ) → stop c ≤ d .off → InBuckets c b → InBuckets d b → ⊥
+apart-buckets c d b h i j = omega (arith, i .to-last, j .from-first)
+
+-- two arrays with a bucket in common are one
+pub one-item : (c d : Code) (b : ℕ) → CoincideOrApart c d → InBuckets c b → InBuckets d b → c .off ≡ d .off
+one-item c d b (coincide e u) i j = e
+one-item c d b (ends-before h) i j = absurd (apart-buckets c d b h i j)
+one-item c d b (begins-after h) i j = absurd (apart-buckets d c b h j i)
+
+-- two code items at one offset are one
+pub one-offset : (c d : Code) → CoincideOrApart c d → c .off ≡ d .off → c .units ≡ d .units
+one-offset c d (coincide e u) o = u
+one-offset c d (ends-before h) o = absurd (omega arith)
+one-offset c d (begins-after h) o = absurd (omega arith)
+
+-- ---- the region
+lowest-le : (b : ℕ) (cs : List Code) → lowest b cs ≤ b
+lowest-le b [] = omega arith
+lowest-le b (c ∷ cs) = omega (arith, lowest-le (min b (firstBucket c)) cs)
+
+lowest-mem : {c : Code} {cs : List Code} → List·Memᴰ c cs → (b : ℕ) → lowest b cs ≤ firstBucket c
+lowest-mem {c} (List·Memᴰ·head {x = d} {xs = cs} e) b = rw e (omega (arith, lowest-le (min b (firstBucket d)) cs))
+lowest-mem {c} (List·Memᴰ·tail {x = d} m) b = lowest-mem m (min b (firstBucket d))
+
+pub base-le : {c : Code} {cs : List Code} → List·Memᴰ c cs → baseOf cs ≤ firstBucket c
+base-le {c} (List·Memᴰ·head {x = d} {xs = cs} e) = rw e (lowest-le (firstBucket d) cs)
+base-le {c} (List·Memᴰ·tail {x = d} m) = lowest-mem m (firstBucket d)
+
+pub top-lt : {c : Code} {cs : List Code} → List·Memᴰ c cs → lastBucket c < topOf cs
+top-lt {c} (List·Memᴰ·head {x = d} {xs = cs} e) = rw e (omega arith)
+top-lt {c} (List·Memᴰ·tail {x = d} m) = omega (arith, top-lt m)
+
+pub top-least : (cs : List Code) (e : ℕ) → ((c : Code) → List·Memᴰ c cs → (lastBucket c + 1) * 16 ≤ e) → topOf cs * 16 ≤ e
+top-least [] e f = omega arith
+top-least (c ∷ cs) e f = omega (arith, f c (List·Memᴰ·head refl), top-least cs e (λ d m. f d (List·Memᴰ·tail m)))
+
+-- whose bucket it is
+pub owner-of : (cs : List Code) (b : ℕ) → ((d : Code) × List·Memᴰ d cs × InBuckets d b) ⊎ ((d : Code) → List·Memᴰ d cs → InBuckets d b → ⊥)
+owner-of [] b = inr (λ d m i. List·Memᴰ·not-nil m)
+owner-of (c ∷ cs) b =
+    ⊎-elim
+    (λ (f : b < firstBucket c). further (owner-of cs b) (λ i. omega (arith, i .from-first)))
+    (λ (f : firstBucket c ≤ b).
+    ⊎-elim
+    (λ (l : lastBucket c < b). further (owner-of cs b) (λ i. omega (arith, i .to-last)))
+    (λ (l : b ≤ lastBucket c). inl (c, List·Memᴰ·head refl, record { from-first = f; to-last = l }))
+    (lt-or-le (lastBucket c) b))
+    (lt-or-le b (firstBucket c))
+  where
+    further : ((d : Code) × List·Memᴰ d cs × InBuckets d b) ⊎ ((d : Code) → List·Memᴰ d cs → InBuckets d b → ⊥)
+        → (InBuckets c b → ⊥) → ((d : Code) × List·Memᴰ d (c ∷ cs) × InBuckets d b) ⊎ ((d : Code) → List·Memᴰ d (c ∷ cs) → InBuckets d b → ⊥)
+    further (inl r) f = inl (r .0, List·Memᴰ·tail (r .1), r .2)
+    further (inr g) f = inr (λ d m i. ⊎-elim (λ (e : d ≡ c). f (rw e at i)) (λ k. g d k i) (List·Memᴰ·cases-cons m))
