@@ -1,1 +1,1 @@
-// Demand 3, stated and proved of the definitions that the operations meet: specs/Supposed.antt, specs/Statement.antt. It has no code.
+// Demand 3, stated in specs/Completeness.antt and proved of the definitions that the operations meet. It has no code.
