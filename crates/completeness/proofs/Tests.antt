@@ -6,7 +6,7 @@ use mathlib.Core.Path.{_≡_, refl, sym, _∙_, ap}
 use mathlib.Core.Logic.{_⊎_, inl, inr, ⊎-elim}
 use mathlib.Core.Bool.{Bool, true, false, _&&_}
 use mathlib.Core.List.{List, [], _∷_, List·Memᴰ, List·Memᴰ·head, List·Memᴰ·tail}
-use mathlib.Core.Option.{Option, none, some}
+use mathlib.Core.Option.{some}
 use lib.Dec.{ltb, eqb}
 use lib.ListN.{getD}
 use borrow.Author.Tests.{ltb-true, ltb-false, eqb-true, eqb-false, eq-eqb}
@@ -18,17 +18,8 @@ use Rattle.code_item_scan.specs.Scan.{isIn}
 pub no-test : false ≡ true → ⊥
 no-test q = let z : _≡_ {A = ℕ} 0 1 = cc in omega arith
 
-pub no-option : {A : Type 0} {x : A} → none ≡ some x → ⊥
-no-option q = let z : _≡_ {A = ℕ} 0 1 = cc in omega arith
-
 pub some-inj : {A : Type 0} {a b : A} → some a ≡ some b → a ≡ b
 some-inj e = cc
-
--- two tests that pass together
-pub same-test : (a b : Bool) → (a ≡ true → b ≡ true) → (b ≡ true → a ≡ true) → a ≡ b
-same-test true b f g = sym (f refl)
-same-test false true f g = g refl
-same-test false false f g = refl
 
 pub and-true : {a b : Bool} → a ≡ true → b ≡ true → (a && b) ≡ true
 and-true {a} {b} p q = cc
@@ -38,10 +29,6 @@ eq-or-not a b = ⊎-elim (λ (e : eqb a b ≡ true). inl (eqb-true a b e)) (λ (
 
 pub lt-or-le : (a b : ℕ) → (a < b) ⊎ (b ≤ a)
 lt-or-le a b = ⊎-elim (λ (e : ltb a b ≡ true). inl (ltb-true a b e)) (λ (e : ltb a b ≡ false). inr (ltb-false a b e)) (case (ltb a b))
-
-pub option-case : {A : Type 0} (o : Option A) → (o ≡ none) ⊎ ((x : A) × (o ≡ some x))
-option-case none = inl refl
-option-case (some x) = inr (x, refl)
 
 pub getD-zeros : (n i : ℕ) → getD (zeros n) i 0 ≡ 0
 getD-zeros n i = ap (λ (l : List ℕ). getD l i 0) (sym (padded-none n)) ∙ padded-at n [] i
