@@ -14,8 +14,7 @@ use Rattle.words.proofs.Shared.{cond-elim}
 use Rattle.dalvik.specs.Numbers.{le16, le32}
 use Rattle.tinydex.specs.declared.DexHeader.{DexHeader}
 use Rattle.class_data.specs.Codes.{successive, defined, entryFrom, mapEntry, byEntry, codesOf}
-use Rattle.class_data.specs.Steps.{Kept, Left, stored}
-use Rattle.class_data.specs.Reads.{place}
+use Rattle.class_data.specs.Steps.{Kept, Left, stored, place}
 use Rattle.class_data.specs.declared.item.Offset.the-variants as o
 use Rattle.class_data.proofs.Laws.{Word}
 
@@ -30,11 +29,11 @@ module _ (s : List ℕ) (i : ℕ) where
     unfolding place mapEntry
     map-outside q = rw (ne-eqb _ _ z, lt-ltb _ _ q)
 
-    pub map-inside : (n : ℕ) → Word s i n 4 (le32 s i) → entryFrom n s (i + 4) ≡ mapEntry s i
+    pub map-inside : {n : ℕ} → Word s i n 4 (le32 s i) → entryFrom n s (i + 4) ≡ mapEntry s i
     unfolding mapEntry
-    map-inside n x = rw (ne-eqb _ _ z, le-ltb _ _ (x .inside), ← x .is)
+    map-inside x = rw (ne-eqb _ _ z, le-ltb _ _ (x .inside), ← x .is)
 
-module _ (s : List ℕ) (i : ℕ) (d : Option ℕ) where
+module _ (s : List ℕ) (i : ℕ) {d : Option ℕ} where
   pub entry-past : (n : ℕ) → length s < i + 12 → entryFrom n s i ≡ d → place o.Nowhere ≡ d
   unfolding place entryFrom
   entry-past zero q h = h
@@ -45,7 +44,7 @@ module _ (s : List ℕ) (i : ℕ) (d : Option ℕ) where
   entry-end zero z h = h
   entry-end (suc n) z h = absurd (omega arith)
 
-  module _ (q : i + 12 ≤ length s) (v : ℕ) (x : Word s i v 2 (le16 s i)) where
+  module _ (q : i + 12 ≤ length s) {v : ℕ} (x : Word s i v 2 (le16 s i)) where
     pub entry-this : (n : ℕ) → 0 < n → v ≡ 8192 → entryFrom n s i ≡ d → place (o.At i) ≡ d
     unfolding place entryFrom
     entry-this zero z t h = absurd (omega arith)
@@ -82,12 +81,13 @@ pub entry-in : (s : List ℕ) (i e : ℕ) → some e ≡ mapEntry s i → e + 12
 entry-in s i e q = subst (EntryR s) (sym q) (map-keeps s i)
 
 -- ---- the file
-module _ (s : List ℕ) (h : DexHeader) (x : Kept) (d : Left) where
-  pub by-map : (e : ℕ) → some e ≡ mapEntry s (h .mapoff) → d ≡ stored x (successive (le32 s (e + 4)) s (h .methods .size) (le32 s (e + 8)))
+module _ (s : List ℕ) (h : DexHeader) (x : Kept) {d : Left} where
+  pub by-map : {e : ℕ} → some e ≡ mapEntry s (h .mapoff) → d ≡ stored x (successive (le32 s (e + 4)) s (h .methods .size) (le32 s (e + 8)))
       → d ≡ stored x (codesOf s h)
   unfolding codesOf
-  by-map e q g = g ∙ ap (λ (r : Option ℕ). stored x (byEntry s h r)) q
+  by-map q g = g ∙ ap (λ (r : Option ℕ). stored x (byEntry s h r)) q
 
-  pub by-def : none ≡ mapEntry s (h .mapoff) → d ≡ stored x (defined (h .classes .size) s (h .methods .size) (h .classes .off)) → d ≡ stored x (codesOf s h)
+  pub by-def : none ≡ mapEntry s (h .mapoff) → d ≡ stored x (defined (h .classes .size) s (h .methods .size) (h .classes .off))
+      → d ≡ stored x (codesOf s h)
   unfolding codesOf
   by-def q g = g ∙ ap (λ (r : Option ℕ). stored x (byEntry s h r)) q

@@ -12,7 +12,7 @@ use borrow.Author.Tests.{ltb-false, leb-true}
 use Rattle.words.proofs.Shared.{cond-elim}
 use Rattle.words.specs.Padded.{zeros, padded}
 use Rattle.words.proofs.Padded.{padded-none}
-use Rattle.refusal.specs.Refusals.{tooLarge}
+use Rattle.refusal.specs.Refusals.{largestFile, tooLarge}
 use Rattle.refusal.specs.declared.Refusal.{Refusal}
 use Rattle.refusal.specs.declared.Refusal.the-variants.{FileTooLarge, LentTooShort}
 use Rattle.refusal.specs.declared.Answer.the-variants.{Done, Refused}
@@ -20,7 +20,7 @@ use Rattle.dalvik.specs.CodeItem.{Code}
 use Rattle.dalvik.specs.ClassData.{classDefSize, class-data-off}
 use Rattle.dalvik.specs.MapList.{map-size, map-offset}
 use Rattle.tinydex.specs.declared.DexHeader.{DexHeader}
-use Rattle.class_data.specs.Walk.{Walk, behind, andOn, classDataAt}
+use Rattle.class_data.specs.Walk.{Walk, following, andOn, classDataAt}
 use Rattle.class_data.specs.Walk.Walk.{refused, found}
 pub use Rattle.class_data.proofs.Within.{CodeIn, Each}
 use Rattle.class_data.proofs.Within.{each-append, WithinR, class-within}
@@ -39,13 +39,13 @@ module _ (s : List ℕ) (m : ℕ) where
   within-each i (refused r) h = tt
   within-each i (found cs e) h = h .each
 
-  each-behind : (cs : List Code) (v : Walk) → Each (CodeIn s m) cs → EachR s m v → EachR s m (behind cs v)
-  each-behind cs (refused r) a h = tt
-  each-behind cs (found ds e) a h = each-append (CodeIn s m) cs ds a h
+  each-following : (cs : List Code) (v : Walk) → Each (CodeIn s m) cs → EachR s m v → EachR s m (following cs v)
+  each-following cs (refused r) a h = tt
+  each-following cs (found ds e) a h = each-append (CodeIn s m) cs ds a h
 
   each-on : (v : Walk) (f : ℕ → Walk) → EachR s m v → ((e : ℕ) → EachR s m (f e)) → EachR s m (andOn v f)
   each-on (refused r) f a b = tt
-  each-on (found cs e) f a b = each-behind cs (f e) a (b e)
+  each-on (found cs e) f a b = each-following cs (f e) a (b e)
 
   class-each : (i : ℕ) → EachR s m (classDataAt s m i)
   class-each i = within-each 0 (classDataAt s m i) (class-within s m i)
@@ -62,7 +62,8 @@ module _ (s : List ℕ) (m : ℕ) where
       cond-elim (EachR s m) (leb (i + 28) (length s)) _ _
       (λ _. cond-elim (EachR s m) (eqb (class-data-off s i) 0) _ _
       (λ _. defined-each n (i + classDefSize))
-      (λ _. each-on (classDataAt s m (class-data-off s i)) (λ e. defined n s m (i + classDefSize)) (class-each (class-data-off s i)) (λ e. defined-each n (i + classDefSize))))
+      (λ _. each-on (classDataAt s m (class-data-off s i)) (λ e. defined n s m (i + classDefSize)) (class-each (class-data-off s i))
+      (λ e. defined-each n (i + classDefSize))))
       (λ _. tt)
 
 entry-each : (s : List ℕ) (h : DexHeader) (r : Option ℕ) → EachR s (h .methods .size) (byEntry s h r)
@@ -75,7 +76,7 @@ codes-sound s h cs e q = subst (EachR s (h .methods .size)) (sym q) (entry-each 
 
 -- ---- an answer of `codes`, taken apart
 record Fit (s : List ℕ) (h : DexHeader) (nt nz : ℕ) (cs : List Code) (e : ℕ) : Type 0 where
-  small : length s ≤ 16777216
+  small : length s ≤ largestFile
   room : h .methods .size ≤ nz
   walk : found cs e ≡ codesOf s h
   fits : 3 * length cs ≤ nt
@@ -92,7 +93,8 @@ fit-walk nt (found ds i) cs e q =
     let d : cs ≡ ds = cc in
     (y, omega (arith, ap length d, leb-true (3 * length ds) nt (t .0)))
 
-fit-room : (b : Bool) (nt : ℕ) (v : Walk) (cs : List Code) (e : ℕ) → found cs e ≡ cond b (fitting nt v) (refused LentTooShort) → (b ≡ true) × (found cs e ≡ fitting nt v)
+fit-room : (b : Bool) (nt : ℕ) (v : Walk) (cs : List Code) (e : ℕ) → found cs e ≡ cond b (fitting nt v) (refused LentTooShort)
+    → (b ≡ true) × (found cs e ≡ fitting nt v)
 fit-room true nt v cs e q = (refl, q)
 fit-room false nt v cs e q = absurd (let x : _≡_ {A = ℕ} 0 1 = cc in omega arith)
 
@@ -112,7 +114,7 @@ pub record Taken (s : List ℕ) (h : DexHeader) (n : ℕ) (before after : CodeWo
   pub codes : List Code
   pub next : ℕ
   pub walk : found codes next ≡ codesOf s h
-  pub small : length s ≤ 16777216
+  pub small : length s ≤ largestFile
   pub room : h .methods .size ≤ length (before .starts)
   pub fits : 3 * length codes ≤ length (before .triples)
   pub count : n ≡ length codes

@@ -26,7 +26,7 @@ use Rattle.class_data.proofs.Within.{CodeIn, Each}
 use Rattle.class_data.specs.Codes.{codesOf}
 use Rattle.class_data.specs.Stored.{CodeWords, triplesOf, startsFrom, startsOf}
 use Rattle.class_data.specs.Found.{codesIn, codesFor, GivesCodes}
-use Rattle.class_data.specs.Steps.{Kept, kept, more, stored, FitCodes}
+use Rattle.class_data.specs.Steps.{Kept, kept, stored, FitCodes}
 use Rattle.class_data.specs.Steps.Left.{refusal, left}
 use Rattle.class_data.proofs.Kept.{length-triples, left-by, stored-refused, SameLengths}
 use Rattle.class_data.proofs.Found.{codes-sound}
@@ -38,7 +38,8 @@ triples-padded n cs q =
     let h : 0 + length (triplesOf cs) ≤ length (zeros n) = omega (arith, length-triples cs, length-replicate {A = ℕ} n 0) in
     sets-eq (triplesOf cs) (zeros n) 0 h ∙ padded-front n (0 + length (triplesOf cs)) (triplesOf cs) (sym l)
 
-starts-padded : (s : List ℕ) (m n : ℕ) (ws : List ℕ) (cs : List Code) → startCount ws ≡ m → Each (CodeIn s m) cs → startsFrom (padded n ws) cs ≡ padded n (startsFrom ws cs)
+starts-padded : (s : List ℕ) (m n : ℕ) (ws : List ℕ) (cs : List Code) → startCount ws ≡ m → Each (CodeIn s m) cs
+    → startsFrom (padded n ws) cs ≡ padded n (startsFrom ws cs)
 starts-padded s m n ws [] e a = refl
 starts-padded s m n ws (c ∷ cs) e a =
     let q : c .method < startCount ws = omega (arith, a .0 .index) in
@@ -67,23 +68,24 @@ module _ (s : List ℕ) (h : DexHeader) (lent : CodeWords) where
     codes-short b = rw (a, lt-leb _ _ b)
 
     module _ (b : h .methods .size ≤ length (lent .starts)) where
-      pub codes-no : (r : Refusal) (x : Kept) → refusal r ≡ stored x (codesOf s h) → refused r ≡ codesFor s h lent
+      pub codes-no : {r : Refusal} (x : Kept) → refusal r ≡ stored x (codesOf s h) → refused r ≡ codesFor s h lent
       unfolding codesIn
-      codes-no r x e = rw (a, le-leb _ _ b, ← stored-refused x (codesOf s h) r e)
+      codes-no {r} x e = rw (a, le-leb _ _ b, ← stored-refused x (codesOf s h) r e)
 
-      codes-full : (cs : List Code) (i : ℕ) → found cs i ≡ codesOf s h → length (lent .triples) < 3 * length cs → refused LentTooShort ≡ codesFor s h lent
+      codes-full : {cs : List Code} {i : ℕ} → found cs i ≡ codesOf s h → length (lent .triples) < 3 * length cs
+          → refused LentTooShort ≡ codesFor s h lent
       unfolding codesIn
-      codes-full cs i e q = rw (a, le-leb _ _ b, ← e, lt-leb _ _ q)
+      codes-full e q = rw (a, le-leb _ _ b, ← e, lt-leb _ _ q)
 
-      codes-fits : (cs : List Code) (i : ℕ) → found cs i ≡ codesOf s h → 3 * length cs ≤ length (lent .triples) → found cs i ≡ codesFor s h lent
+      codes-fits : {cs : List Code} {i : ℕ} → found cs i ≡ codesOf s h → 3 * length cs ≤ length (lent .triples) → found cs i ≡ codesFor s h lent
       unfolding codesIn
-      codes-fits cs i e q = rw (a, le-leb _ _ b, ← e, le-leb _ _ q)
+      codes-fits e q = rw (a, le-leb _ _ b, ← e, le-leb _ _ q)
 
-      module _ (i : ℕ) (cleared : CodeWords) (y : Kept) (e : left i y ≡ stored (kept 0 cleared) (codesOf s h)) where
+      module _ (cleared : CodeWords) {i : ℕ} {y : Kept} (e : left i y ≡ stored (kept 0 cleared) (codesOf s h)) where
         pub codes-over : length (lent .triples) / 3 < y .count → refused LentTooShort ≡ codesFor s h lent
         codes-over q =
             let x = left-by (kept 0 cleared) (codesOf s h) i y e in
-            codes-full (x .codes) i (x .walk) (omega (arith, x .count))
+            codes-full (x .walk) (omega (arith, x .count))
 
         pub fit-all : Cleared lent cleared → y .count ≤ length (lent .triples) / 3
             → FitCodes (h .methods .size) (codesFor s h lent) (Done (y .count)) lent (y .words)
@@ -94,7 +96,7 @@ module _ (s : List ℕ) (h : DexHeader) (lent : CodeWords) where
             let m : ℕ = h .methods .size in
             let k : y .count ≡ length cs = omega (arith, x .count) in
             let o : 3 * length cs ≤ length (lent .triples) = omega arith in
-            subst (λ (v : Walk). GivesCodes m v (Done (y .count)) lent (y .words)) (codes-fits cs i (x .walk) o)
+            subst (λ (v : Walk). GivesCodes m v (Done (y .count)) lent (y .words)) (codes-fits (x .walk) o)
             (record {
               answer = ap Done k;
               triples =
@@ -106,9 +108,9 @@ module _ (s : List ℕ) (h : DexHeader) (lent : CodeWords) where
             })
 
 -- a refusal with cleared words
-pub gives-refused : (m : ℕ) (v : Walk) (r : Refusal) (before after : CodeWords) → refused r ≡ v → Cleared before after
+pub gives-refused : {m : ℕ} {v : Walk} {r : Refusal} {before after : CodeWords} → refused r ≡ v → Cleared before after
     → GivesCodes m v (Refused r) before after
-gives-refused m v r before after e z =
+gives-refused {m} {v} {r} {before} {after} e z =
     subst (λ (x : Walk). GivesCodes m x (Refused r) before after) e
     (record {
       answer = refl;
@@ -118,25 +120,25 @@ gives-refused m v r before after e z =
 
 -- ---- before the words of a refusal are cleared
 module _ (m : ℕ) (v : Walk) (before after : CodeWords) where
-  pub fit-refused : (r : Refusal) → refused r ≡ v → FitCodes m v (Refused r) before after
+  pub fit-refused : {r : Refusal} → refused r ≡ v → FitCodes m v (Refused r) before after
   unfolding FitCodes
-  fit-refused r e = e
+  fit-refused e = e
 
   module _ (a : Answer) (q : FitCodes m v a before after) where
-    pub done-told : (n : ℕ) → a ≡ Done n → GivesCodes m v (Done n) before after
+    pub done-told : {n : ℕ} → a ≡ Done n → GivesCodes m v (Done n) before after
     unfolding FitCodes
-    done-told n e = subst (λ (x : Answer). FitCodes m v x before after) e q
+    done-told e = subst (λ (x : Answer). FitCodes m v x before after) e q
 
-    pub refused-told : (r : Refusal) → a ≡ Refused r → refused r ≡ v
+    pub refused-told : {r : Refusal} → a ≡ Refused r → refused r ≡ v
     unfolding FitCodes
-    refused-told r e = subst (λ (x : Answer). FitCodes m v x before after) e q
+    refused-told e = subst (λ (x : Answer). FitCodes m v x before after) e q
 
 -- words cleared again, as long as they came
 pub cleared-again : {before mid after : CodeWords} → Cleared mid after → SameLengths before mid → Cleared before after
 cleared-again z l = record { triples = z .triples ∙ ap zeros (l .triples); starts = z .starts ∙ ap zeros (l .starts) }
 
 -- the triples that fit, by the slice's length before the walk
-module _ (a b n : ℕ) (e : a ≡ b) (m : ℕ) (f : b ≡ m) where
+module _ {a b m : ℕ} (n : ℕ) (e : a ≡ b) (f : b ≡ m) where
   pub third-over : a / 3 < n → m / 3 < n
   third-over q = omega arith
 

@@ -8,6 +8,7 @@ use mathlib.Core.List.{List}
 use lib.ListN.{length}
 use borrow.Author.Tests.{le-leb, lt-leb, eq-eqb, ne-eqb}
 use Rattle.dalvik.specs.Numbers.{le32}
+use Rattle.refusal.specs.Refusals.{largestFile}
 use Rattle.refusal.specs.declared.Refusal.{Refusal}
 use Rattle.refusal.specs.declared.Refusal.the-variants.{TableOutside}
 use Rattle.class_data.specs.Walk.{Walk, andOn, classDataAt}
@@ -23,18 +24,18 @@ use Rattle.class_data.proofs.Kept.{stored-on, stored-none, stored-refus
 use Rattle.class_data.proofs.OneItem.{class-few}
 
 -- ---- the items of a map entry
-module _ (s : List ℕ) (m i : ℕ) (x : Kept) (d : Left) where
-  pub successive-again : (n e : ℕ) (y : Kept) → 0 < n → left e y ≡ stored x (classDataAt s m i)
+module _ (s : List ℕ) (m i : ℕ) (x : Kept) {d : Left} where
+  pub successive-again : (n : ℕ) {e : ℕ} {y : Kept} → 0 < n → left e y ≡ stored x (classDataAt s m i)
       → stored x (successive n s m i) ≡ d → stored y (successive (n - 1) s m e) ≡ d
   unfolding successive
-  successive-again zero e y z h q = absurd (omega arith)
-  successive-again (suc n) e y z h q = rw sub-one (stored-on x (classDataAt s m i) (λ a. successive n s m a) e y h ∙ q)
+  successive-again zero z h q = absurd (omega arith)
+  successive-again (suc n) {e} {y} z h q = rw sub-one (stored-on x (classDataAt s m i) (λ a. successive n s m a) e y h ∙ q)
 
-  pub successive-no : (n : ℕ) (r : Refusal) → 0 < n → refusal r ≡ stored x (classDataAt s m i)
+  pub successive-no : (n : ℕ) {r : Refusal} → 0 < n → refusal r ≡ stored x (classDataAt s m i)
       → stored x (successive n s m i) ≡ d → refusal r ≡ d
   unfolding successive
-  successive-no zero r z h q = absurd (omega arith)
-  successive-no (suc n) r z h q =
+  successive-no zero z h q = absurd (omega arith)
+  successive-no (suc n) {r} z h q =
       refused-stored x _ r (ap (λ (w : Walk). andOn w (λ a. successive n s m a)) (stored-refused x (classDataAt s m i) r h)) ∙ q
 
   pub successive-end : (n : ℕ) → n ≤ 0 → stored x (successive n s m i) ≡ d → left i x ≡ d
@@ -50,21 +51,21 @@ by-words s m x a b = λ j. stored x (successive (a j) s m (b j))
 pub record ByMap (s : List ℕ) (m : ℕ) (from at : Turn) : Type 0 where
   pub rest : stored (at .held) (successive (at .togo) s m (at .pos)) ≡ stored (from .held) (successive (from .togo) s m (from .pos))
   pub most : at .togo ≤ from .togo
-  pub few : at .held .count ≤ 16777216 * (from .togo - at .togo)
+  pub few : at .held .count ≤ largestFile * (from .togo - at .togo)
   pub same : SameLengths (from .held .words) (at .held .words)
 
-module _ {s : List ℕ} {m : ℕ} {from at : Turn} (x : ByMap s m from at) (small : length s ≤ 16777216) where
+module _ {s : List ℕ} {m : ℕ} {from at : Turn} (x : ByMap s m from at) (small : length s ≤ largestFile) where
   -- the count stays small
   pub bymap-few : from .togo < 2 ^ 32 → ItemPre s (at .held .count)
   bymap-few q = record { small = small; few = omega (arith, x .few) }
 
   -- a turn of the loop
-  pub bymap-again : 0 < at .togo → (e : ℕ) (y : Kept) → left e y ≡ stored (at .held) (classDataAt s m (at .pos)) → SameLengths (at .held .words) (y .words)
-      → ByMap s m from (turn (at .togo - 1) e y)
-  bymap-again z e y h l =
-      let f = class-few s m (at .pos) (at .held) e y h in
+  pub bymap-again : 0 < at .togo → {e : ℕ} {y : Kept} → left e y ≡ stored (at .held) (classDataAt s m (at .pos))
+      → SameLengths (at .held .words) (y .words) → ByMap s m from (turn (at .togo - 1) e y)
+  bymap-again z {e} {y} h l =
+      let f = class-few s m (at .pos) (at .held) h in
       record {
-        rest = successive-again s m (at .pos) (at .held) _ (at .togo) e y z h (x .rest);
+        rest = successive-again s m (at .pos) (at .held) (at .togo) z h (x .rest);
         most = omega arith;
         few = omega arith;
         same = same-on (x .same) l;
@@ -78,7 +79,7 @@ module _ (s : List ℕ) (m i : ℕ) (x : Kept) where
       let p : length s < i + 28 = omega arith in
       λ n. rw (lt-leb _ _ p)
 
-  module _ (v : ℕ) (word : Word s (i + 24) v 4 (le32 s (i + 24))) where
+  module _ {v : ℕ} (word : Word s (i + 24) v 4 (le32 s (i + 24))) where
     abbrev def-fits : i + 28 ≤ length s
     def-fits = omega (arith, word .inside)
 
@@ -99,29 +100,29 @@ module _ (s : List ℕ) (m i : ℕ) (x : Kept) where
     def-some (w.Found e k) after z h =
         record {
           rest = λ n. stored-on x (classDataAt s m v) (λ a. defined n s m (i + 32)) e (kept k after) h ∙ ap (stored x) (def-walks z n);
-          few = class-few s m v x e (kept k after) h;
+          few = class-few s m v x h;
         }
     def-some (w.Refused y) after z h =
         λ n. ap (λ (a : Walk). andOn a (λ e. defined n s m (i + 32))) (stored-refused x (classDataAt s m v) y h) ∙ def-walks z n
 
 module _ (s : List ℕ) (m i : ℕ) (x : Kept) (r : Walked) (after : CodeWords) (q : OneDefined s m i x r after) where
-  pub def-told : (e k : ℕ) → r ≡ w.Found e k → DefinedOn s m i x (kept k after)
+  pub def-told : {e k : ℕ} → r ≡ w.Found e k → DefinedOn s m i x (kept k after)
   unfolding OneDefined
-  def-told e k h = subst (λ (y : Walked). OneDefined s m i x y after) h q
+  def-told h = subst (λ (y : Walked). OneDefined s m i x y after) h q
 
-  pub def-refused : (y : Refusal) → r ≡ w.Refused y → (n : ℕ) → refused y ≡ defined (suc n) s m i
+  pub def-refused : {y : Refusal} → r ≡ w.Refused y → (n : ℕ) → refused y ≡ defined (suc n) s m i
   unfolding OneDefined
-  def-refused y h = subst (λ (z : Walked). OneDefined s m i x z after) h q
+  def-refused h = subst (λ (z : Walked). OneDefined s m i x z after) h q
 
-module _ (s : List ℕ) (m i : ℕ) (x : Kept) (d : Left) where
-  pub defined-again : (n : ℕ) (y : Kept) → 0 < n → DefinedOn s m i x y → stored x (defined n s m i) ≡ d → stored y (defined (n - 1) s m (i + 32)) ≡ d
-  defined-again zero y z h q = absurd (omega arith)
-  defined-again (suc n) y z h q = rw sub-one (h .rest n ∙ q)
+module _ (s : List ℕ) (m i : ℕ) (x : Kept) {d : Left} where
+  pub defined-again : (n : ℕ) {y : Kept} → 0 < n → DefinedOn s m i x y → stored x (defined n s m i) ≡ d → stored y (defined (n - 1) s m (i + 32)) ≡ d
+  defined-again zero z h q = absurd (omega arith)
+  defined-again (suc n) z h q = rw sub-one (h .rest n ∙ q)
 
-  pub defined-no : (n : ℕ) (r : Refusal) → 0 < n → ((n : ℕ) → refused r ≡ defined (suc n) s m i)
+  pub defined-no : (n : ℕ) {r : Refusal} → 0 < n → ((n : ℕ) → refused r ≡ defined (suc n) s m i)
       → stored x (defined n s m i) ≡ d → refusal r ≡ d
-  defined-no zero r z h q = absurd (omega arith)
-  defined-no (suc n) r z h q = refused-stored x _ r (h n) ∙ q
+  defined-no zero z h q = absurd (omega arith)
+  defined-no (suc n) {r} z h q = refused-stored x _ r (h n) ∙ q
 
   pub defined-end : (n : ℕ) → n ≤ 0 → stored x (defined n s m i) ≡ d → left i x ≡ d
   unfolding defined
@@ -133,14 +134,14 @@ pub record ByDef (s : List ℕ) (m : ℕ) (from at : Turn) : Type 0 where
   pub rest : stored (at .held) (defined (at .togo) s m (at .pos)) ≡ stored (from .held) (defined (from .togo) s m (from .pos))
   pub most : at .togo ≤ from .togo
   pub place : at .pos ≡ from .pos + 32 * (from .togo - at .togo)
-  pub few : at .held .count ≤ 16777216 * (from .togo - at .togo)
+  pub few : at .held .count ≤ largestFile * (from .togo - at .togo)
   pub same : SameLengths (from .held .words) (at .held .words)
 
-pub bydef-again : {s : List ℕ} {m : ℕ} {from at : Turn} → ByDef s m from at → length s ≤ 16777216 → 0 < at .togo
-    → (y : Kept) → DefinedOn s m (at .pos) (at .held) y → SameLengths (at .held .words) (y .words)
+pub bydef-again : {s : List ℕ} {m : ℕ} {from at : Turn} → ByDef s m from at → length s ≤ largestFile → 0 < at .togo
+    → {y : Kept} → DefinedOn s m (at .pos) (at .held) y → SameLengths (at .held .words) (y .words)
     → ByDef s m from (turn (at .togo - 1) (at .pos + 32) y)
-bydef-again {s} {m} {from} {at} x small z y g l = record {
-  rest = defined-again s m (at .pos) (at .held) _ (at .togo) y z g (x .rest);
+bydef-again {s} {m} {from} {at} x small z g l = record {
+  rest = defined-again s m (at .pos) (at .held) (at .togo) z g (x .rest);
   most = omega arith;
   place = omega arith;
   few = omega arith;

@@ -10,7 +10,7 @@ use lib.ListN.{length, set, length-append}
 use lib.Seq.{sets}
 use Rattle.dalvik.specs.CodeItem.{Code}
 use Rattle.refusal.specs.declared.Refusal.{Refusal}
-use Rattle.class_data.specs.Walk.{Walk, behind, andOn}
+use Rattle.class_data.specs.Walk.{Walk, following, andOn}
 use Rattle.class_data.specs.Walk.Walk.{refused, found}
 use Rattle.class_data.specs.Stored.{CodeWords, codeWords, triplesOf, startsFrom}
 use Rattle.class_data.specs.Steps.{Kept, kept, more, Left, stored, seen}
@@ -40,10 +40,10 @@ starts-append : (zs : List ℕ) (xs ys : List Code) → startsFrom zs (xs ++ ys)
 starts-append zs [] ys = refl
 starts-append zs (c ∷ xs) ys = starts-append _ xs ys
 
-pub stored-behind : (x : Kept) (cs : List Code) (v : Walk) → stored (more x cs) v ≡ stored x (behind cs v)
+pub stored-following : (x : Kept) (cs : List Code) (v : Walk) → stored (more x cs) v ≡ stored x (following cs v)
 unfolding stored
-stored-behind x cs (refused r) = refl
-stored-behind x cs (found ds e) =
+stored-following x cs (refused r) = refl
+stored-following x cs (found ds e) =
     let k : ℕ = x .count in
     let ts : List ℕ = x .words .triples in
     let zs : List ℕ = x .words .starts in
@@ -65,7 +65,7 @@ stored-on x (refused r) f e y q = absurd (let z : _≡_ {A = ℕ} 0 1 = cc in om
 stored-on x (found cs i) f e y q =
     let a : e ≡ i = cc in
     let b : y ≡ more x cs = cc in
-    (λ j. stored (b j) (f (a j))) ∙ stored-behind x cs (f i)
+    (λ j. stored (b j) (f (a j))) ∙ stored-following x cs (f i)
 
 pub stored-refused : (x : Kept) (v : Walk) (r : Refusal) → refusal r ≡ stored x v → refused r ≡ v
 unfolding stored

@@ -1,9 +1,10 @@
--- One law for each way out of the definitions of the walk over one class data item: what a read has shown decides the test, and the rest of the walk is the same.
+-- One law for each way out of the definitions of the walk over one class data item: what a read has shown decides the test, and the rest of
+-- the walk is the same.
 -- Assumes nothing.
 use Prim.Native.Nat.{ℕ, zero, suc, _+_, _*_, _-_, _%_, _<_, _≤_}
 use native.Mathlib.Omega.{arith}
 use native.Mathlib.Numerals.{sub-one}
-use mathlib.Core.Path.{_≡_, refl, sym, subst, _∙_}
+use mathlib.Core.Path.{_≡_, refl, sym, subst}
 use mathlib.Core.Bool.{Bool, true, false, cond, _&&_}
 use mathlib.Core.List.{List}
 use mathlib.Core.Option.{Option, none, some}
@@ -15,8 +16,6 @@ use Rattle.dalvik.specs.Numbers.{le16, le32}
 use Rattle.structs.specs.Reads.{read16, read32}
 use Rattle.structs.specs.declared.Read16.the-variants as v16
 use Rattle.structs.specs.declared.Read32.the-variants as v32
-use Rattle.structs.specs.declared.Read16.{Read16}
-use Rattle.structs.specs.declared.Read32.{Read32}
 use Rattle.leb128.specs.Leb.{ulebFast, ulebLen}
 use Rattle.leb128.specs.declared.Uleb.the-variants as u
 use Rattle.leb128.specs.declared.Len.the-variants as l
@@ -24,9 +23,9 @@ use Rattle.leb128.proofs.Laws.{fast-keeps}
 use Rattle.refusal.specs.declared.Refusal.{Refusal}
 use Rattle.refusal.specs.declared.Refusal.the-variants.{MethodIndex}
 use Rattle.dalvik.specs.CodeItem.{insns-size}
-use Rattle.class_data.specs.Walk.{skipped, twoAt, sizesAt, codeInside, methodsFrom}
+use Rattle.class_data.specs.Walk.{word, skipped, twoAt, sizesAt, codeInside, methodsFrom}
 use Rattle.class_data.specs.Walk.Walk.{refused}
-use Rattle.class_data.specs.Reads.{place, HeadAt, HeadRead, itemAt}
+use Rattle.class_data.specs.Steps.{place, HeadAt, HeadRead, itemAt}
 use Rattle.class_data.specs.declared.item.Offset.{Offset}
 use Rattle.class_data.specs.declared.item.Offset.the-variants as o
 use Rattle.class_data.specs.declared.item.Skipped.{Skipped}
@@ -35,7 +34,6 @@ use Rattle.class_data.specs.declared.item.Two.the-variants as n
 use Rattle.class_data.specs.declared.item.Sizes.the-variants as z
 use Rattle.class_data.specs.declared.item.Head.{Head}
 use Rattle.class_data.specs.declared.item.Head.the-variants as h
-use Rattle.class_data.specs.declared.item.Item.{Item}
 use Rattle.class_data.specs.declared.item.Item.the-variants as t
 
 -- ---- a read taken apart
@@ -92,86 +90,87 @@ module _ (r : Offset) (d : Option ℕ) (e : place r ≡ d) where
 
 -- ---- numbers skipped
 module _ (s : List ℕ) (i : ℕ) where
-  pub skipped-again : (n m : ℕ) (r : Skipped) → 0 < n → l.Bytes m ≡ ulebLen s i → skipped n s i ≡ r → skipped (n - 1) s (i + m) ≡ r
+  pub skipped-again : (n : ℕ) {m : ℕ} {r : Skipped} → 0 < n → l.Bytes m ≡ ulebLen s i → skipped n s i ≡ r → skipped (n - 1) s (i + m) ≡ r
   unfolding skipped
-  skipped-again zero m r z e q = absurd (omega arith)
-  skipped-again (suc n) m r z e q = rw sub-one (rw (← e) at q)
+  skipped-again zero z e q = absurd (omega arith)
+  skipped-again (suc n) z e q = rw sub-one (rw (← e) at q)
 
-  pub skipped-no : (n : ℕ) (r : Skipped) (y : Refusal) → 0 < n → l.Refused y ≡ ulebLen s i → skipped n s i ≡ r → k.Refused y ≡ r
+  pub skipped-no : (n : ℕ) {r : Skipped} {y : Refusal} → 0 < n → l.Refused y ≡ ulebLen s i → skipped n s i ≡ r → k.Refused y ≡ r
   unfolding skipped
-  skipped-no zero r y z e q = absurd (omega arith)
-  skipped-no (suc n) r y z e q = rw (← e) at q
+  skipped-no zero z e q = absurd (omega arith)
+  skipped-no (suc n) z e q = rw (← e) at q
 
-  pub skipped-end : (n : ℕ) (r : Skipped) → n ≤ 0 → skipped n s i ≡ r → k.To i ≡ r
+  pub skipped-end : (n : ℕ) {r : Skipped} → n ≤ 0 → skipped n s i ≡ r → k.To i ≡ r
   unfolding skipped
-  skipped-end zero r z q = q
-  skipped-end (suc n) r z q = absurd (omega arith)
+  skipped-end zero z q = q
+  skipped-end (suc n) z q = absurd (omega arith)
 
 -- ---- the sizes that open a class data item
 module _ (s : List ℕ) (i : ℕ) where
-  pub two-no1 : (y : Refusal) → u.Refused y ≡ ulebFast s i → n.Refused y ≡ twoAt s i
+  pub two-no1 : {y : Refusal} → u.Refused y ≡ ulebFast s i → n.Refused y ≡ twoAt s i
   unfolding twoAt
-  two-no1 y e = rw (← e)
+  two-no1 e = rw (← e)
 
-  module _ (x a : ℕ) (e1 : u.Number x a ≡ ulebFast s i) where
-    pub two-no2 : (y : Refusal) → u.Refused y ≡ ulebFast s (i + a) → n.Refused y ≡ twoAt s i
+  module _ {x a : ℕ} (e1 : u.Number x a ≡ ulebFast s i) where
+    pub two-no2 : {y : Refusal} → u.Refused y ≡ ulebFast s (i + a) → n.Refused y ≡ twoAt s i
     unfolding twoAt
-    two-no2 y e = rw (← e1, ← e)
+    two-no2 e = rw (← e1, ← e)
 
-    pub two-at : (y b : ℕ) → u.Number y b ≡ ulebFast s (i + a) → n.At x y (i + a + b) ≡ twoAt s i
+    pub two-at : {y b : ℕ} → u.Number y b ≡ ulebFast s (i + a) → n.At x y (i + a + b) ≡ twoAt s i
     unfolding twoAt
-    two-at y b e2 = rw (← e1, ← e2)
+    two-at e2 = rw (← e1, ← e2)
 
-  pub sizes-no1 : (y : Refusal) → n.Refused y ≡ twoAt s i → z.Refused y ≡ sizesAt s i
+  pub sizes-no1 : {y : Refusal} → n.Refused y ≡ twoAt s i → z.Refused y ≡ sizesAt s i
   unfolding sizesAt
-  sizes-no1 y e = rw (← e)
+  sizes-no1 e = rw (← e)
 
-  module _ (x y p : ℕ) (e1 : n.At x y p ≡ twoAt s i) where
-    pub sizes-no2 : (y : Refusal) → n.Refused y ≡ twoAt s p → z.Refused y ≡ sizesAt s i
+  module _ {x y p : ℕ} (e1 : n.At x y p ≡ twoAt s i) where
+    pub sizes-no2 : {y : Refusal} → n.Refused y ≡ twoAt s p → z.Refused y ≡ sizesAt s i
     unfolding sizesAt
-    sizes-no2 y e = rw (← e1, ← e)
+    sizes-no2 e = rw (← e1, ← e)
 
-    pub sizes-at : (d v q : ℕ) → n.At d v q ≡ twoAt s p → z.At (2 * ((x + y) % 4294967296)) d v q ≡ sizesAt s i
+    pub sizes-at : {d v q : ℕ} → n.At d v q ≡ twoAt s p → z.At (2 * ((x + y) % word)) d v q ≡ sizesAt s i
     unfolding sizesAt
-    sizes-at d v q e2 = rw (← e1, ← e2)
+    sizes-at e2 = rw (← e1, ← e2)
 
 -- ---- the numbers of a method
 module _ (s : List ℕ) (i m : ℕ) where
-  pub head-no1 : (y : Refusal) → u.Refused y ≡ ulebFast s i → HeadRead s i m (h.Refused y)
+  pub head-no1 : {y : Refusal} → u.Refused y ≡ ulebFast s i → HeadRead s i m (h.Refused y)
   unfolding methodsFrom HeadRead
-  head-no1 y e = λ methods n. rw (← e)
+  head-no1 e = λ methods n. rw (← e)
 
-  module _ (d a : ℕ) (e1 : u.Number d a ≡ ulebFast s i) where
-    pub head-index : 4294967296 ≤ m + d % 4294967296 → HeadRead s i m (h.Refused MethodIndex)
+  module _ {d a : ℕ} (e1 : u.Number d a ≡ ulebFast s i) where
+    pub head-index : word ≤ m + d % word → HeadRead s i m (h.Refused MethodIndex)
     unfolding methodsFrom HeadRead
     head-index q = λ methods n. rw (← e1, le-ltb _ _ q)
 
-    module _ (q : m + d % 4294967296 < 4294967296) where
-      pub head-no2 : (y : Refusal) → u.Refused y ≡ ulebFast s (i + a) → HeadRead s i m (h.Refused y)
+    module _ (q : m + d % word < word) where
+      pub head-no2 : {y : Refusal} → u.Refused y ≡ ulebFast s (i + a) → HeadRead s i m (h.Refused y)
       unfolding methodsFrom HeadRead
-      head-no2 y e = λ methods n. rw (← e1, lt-ltb _ _ q, ← e)
+      head-no2 e = λ methods n. rw (← e1, lt-ltb _ _ q, ← e)
 
-      module _ (x b : ℕ) (e2 : u.Number x b ≡ ulebFast s (i + a)) where
-        pub head-no3 : (y : Refusal) → u.Refused y ≡ ulebFast s (i + a + b) → HeadRead s i m (h.Refused y)
+      module _ {x b : ℕ} (e2 : u.Number x b ≡ ulebFast s (i + a)) where
+        pub head-no3 : {y : Refusal} → u.Refused y ≡ ulebFast s (i + a + b) → HeadRead s i m (h.Refused y)
         unfolding methodsFrom HeadRead
-        head-no3 y e = λ methods n. rw (← e1, lt-ltb _ _ q, ← e2, ← e)
+        head-no3 e = λ methods n. rw (← e1, lt-ltb _ _ q, ← e2, ← e)
 
-        pub head-at : (v c : ℕ) → u.Number v c ≡ ulebFast s (i + a + b) → HeadRead s i m (h.At (i + a + b + c) (m + d % 4294967296) (v % 4294967296))
+        pub head-at : {v c : ℕ} → u.Number v c ≡ ulebFast s (i + a + b)
+            → HeadRead s i m (h.At (i + a + b + c) (m + d % word) (v % word))
         unfolding methodsFrom HeadRead
-        head-at v c e3 =
+        head-at e3 =
             let k1 = fast-keeps _ _ _ _ e1 in
             let k2 = fast-keeps _ _ _ _ e2 in
             let k3 = fast-keeps _ _ _ _ e3 in
             record { rest = λ methods n. rw (← e1, lt-ltb _ _ q, ← e2, ← e3); on = omega arith; inside = k3 .inside }
 
 module _ (s : List ℕ) (i m : ℕ) (r : Head) (q : HeadRead s i m r) where
-  pub head-told : (p j c : ℕ) → r ≡ h.At p j c → HeadAt s i m p j c
+  pub head-told : {p j c : ℕ} → r ≡ h.At p j c → HeadAt s i m p j c
   unfolding HeadRead
-  head-told p j c e = subst (HeadRead s i m) e q
+  head-told e = subst (HeadRead s i m) e q
 
-  pub head-refused : (y : Refusal) → r ≡ h.Refused y → (methods n : ℕ) → refused y ≡ methodsFrom (suc n) s methods i m
+  pub head-refused : {y : Refusal} → r ≡ h.Refused y → (methods n : ℕ) → refused y ≡ methodsFrom (suc n) s methods i m
   unfolding HeadRead
-  head-refused y e = subst (HeadRead s i m) e q
+  head-refused e = subst (HeadRead s i m) e q
 
 -- ---- a code item
 module _ (s : List ℕ) (c : ℕ) where

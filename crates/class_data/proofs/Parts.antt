@@ -7,9 +7,10 @@ use mathlib.Core.List.{List, [], _∷_}
 use borrow.Author.Tests.{lt-ltb, le-ltb, eq-eqb, ne-eqb}
 use Rattle.refusal.specs.declared.Refusal.{Refusal}
 use Rattle.refusal.specs.declared.Refusal.the-variants.{MethodIndex, CodeOutside}
-use Rattle.class_data.specs.Walk.{Walk, behind, andOn, skipped, sizesAt, methodsAt, codeAt, codeInside, withMethod, methodsFrom, classDataAt}
+use Rattle.class_data.specs.Walk.{Walk, following, andOn, skipped, sizesAt, methodsAt}
+use Rattle.class_data.specs.Walk.{mostMethods, codeAt, codeInside, withMethod, methodsFrom, classDataAt}
 use Rattle.class_data.specs.Walk.Walk.{refused}
-use Rattle.class_data.specs.Reads.{HeadAt, itemAt, BareAt, CodedAt, MethodRead}
+use Rattle.class_data.specs.Steps.{HeadAt, itemAt, BareAt, CodedAt, MethodRead}
 use Rattle.class_data.specs.declared.item.Skipped.the-variants as k
 use Rattle.class_data.specs.declared.item.Sizes.the-variants as z
 use Rattle.class_data.specs.declared.item.Methods.the-variants as m
@@ -20,28 +21,29 @@ use Rattle.class_data.proofs.Laws.{item-out, item-in, item-facts}
 
 -- ---- an item up to its methods
 module _ (s : List ℕ) (i : ℕ) where
-  pub methods-no1 : (y : Refusal) → z.Refused y ≡ sizesAt s i → m.Refused y ≡ methodsAt s i
+  pub methods-no1 : {y : Refusal} → z.Refused y ≡ sizesAt s i → m.Refused y ≡ methodsAt s i
   unfolding methodsAt
-  methods-no1 y e = rw (← e)
+  methods-no1 e = rw (← e)
 
-  module _ (n a v p : ℕ) (e : z.At n a v p ≡ sizesAt s i) where
-    pub methods-no2 : (y : Refusal) → k.Refused y ≡ skipped n s p → m.Refused y ≡ methodsAt s i
+  module _ {n a v p : ℕ} (e : z.At n a v p ≡ sizesAt s i) where
+    pub methods-no2 : {y : Refusal} → k.Refused y ≡ skipped n s p → m.Refused y ≡ methodsAt s i
     unfolding methodsAt
-    methods-no2 y q = rw (← e, ← q)
+    methods-no2 q = rw (← e, ← q)
 
-    pub methods-at : (o : ℕ) → k.To o ≡ skipped n s p → m.At a v o ≡ methodsAt s i
+    pub methods-at : {o : ℕ} → k.To o ≡ skipped n s p → m.At a v o ≡ methodsAt s i
     unfolding methodsAt
-    methods-at o q = rw (← e, ← q)
+    methods-at q = rw (← e, ← q)
 
 -- the item is walked from its first method on
 module _ (s : List ℕ) (methods i : ℕ) where
-  pub class-refused : (y : Refusal) → m.Refused y ≡ methodsAt s i → refused y ≡ classDataAt s methods i
+  pub class-refused : {y : Refusal} → m.Refused y ≡ methodsAt s i → refused y ≡ classDataAt s methods i
   unfolding classDataAt
-  class-refused y e = rw (← e)
+  class-refused e = rw (← e)
 
-  pub class-from : (a v p : ℕ) → m.At a v p ≡ methodsAt s i → andOn (methodsFrom a s methods p 0) (λ f. methodsFrom v s methods f 0) ≡ classDataAt s methods i
+  pub class-from : {a v p : ℕ} → m.At a v p ≡ methodsAt s i
+      → andOn (methodsFrom a s methods p 0) (λ f. methodsFrom v s methods f 0) ≡ classDataAt s methods i
   unfolding classDataAt
-  class-from a v p e = rw (← e)
+  class-from e = rw (← e)
 
 -- ---- a method whose numbers were read
 module _ (s : List ℕ) (methods j c : ℕ) (rest : Walk) where
@@ -53,21 +55,22 @@ module _ (s : List ℕ) (methods j c : ℕ) (rest : Walk) where
     with-index a = rw (ne-eqb _ _ q, le-ltb _ _ a)
 
     module _ (a : j < methods) where
-      with-large : 16777216 ≤ j → refused MethodIndex ≡ withMethod s methods j c rest
+      with-large : mostMethods ≤ j → refused MethodIndex ≡ withMethod s methods j c rest
       with-large b = rw (ne-eqb _ _ q, lt-ltb _ _ a, le-ltb _ _ b)
 
-      module _ (b : j < 16777216) where
+      module _ (b : j < mostMethods) where
         with-outside : codeInside s c ≡ false → refused CodeOutside ≡ withMethod s methods j c rest
         with-outside d = rw (ne-eqb _ _ q, lt-ltb _ _ a, lt-ltb _ _ b, d)
 
-        with-code : codeInside s c ≡ true → behind (codeAt s j c ∷ []) rest ≡ withMethod s methods j c rest
+        with-code : codeInside s c ≡ true → following (codeAt s j c ∷ []) rest ≡ withMethod s methods j c rest
         with-code d = rw (ne-eqb _ _ q, lt-ltb _ _ a, lt-ltb _ _ b, d)
 
-pub method-refused : (s : List ℕ) (methods i m : ℕ) (y : Refusal) → ((methods n : ℕ) → refused y ≡ methodsFrom (suc n) s methods i m) → MethodRead s methods i m (d.Refused y)
+pub method-refused : (s : List ℕ) (methods i m : ℕ) {y : Refusal} → ((methods n : ℕ) → refused y ≡ methodsFrom (suc n) s methods i m)
+    → MethodRead s methods i m (d.Refused y)
 unfolding MethodRead
-method-refused s methods i m y e = e methods
+method-refused s methods i m e = e methods
 
-module _ (s : List ℕ) (methods i m p j c : ℕ) (q : HeadAt s i m p j c) where
+module _ (methods : ℕ) {s : List ℕ} {i m p j c : ℕ} (q : HeadAt s i m p j c) where
   -- what is after the method
   abbrev more : ℕ → Walk
   more n = methodsFrom n s methods p j
@@ -82,22 +85,25 @@ module _ (s : List ℕ) (methods i m p j c : ℕ) (q : HeadAt s i m p j c) where
     method-index x = λ n. with-index s methods j c (more n) z x ∙ q .rest methods n
 
     module _ (x : j < methods) where
-      pub method-large : 16777216 ≤ j → MethodRead s methods i m (d.Refused MethodIndex)
+      pub method-large : mostMethods ≤ j → MethodRead s methods i m (d.Refused MethodIndex)
       unfolding MethodRead
       method-large y = λ n. with-large s methods j c (more n) z x y ∙ q .rest methods n
 
-      module _ (y : j < 16777216) where
+      module _ (y : j < mostMethods) where
         pub method-outside : t.Outside ≡ itemAt s c → MethodRead s methods i m (d.Refused CodeOutside)
         unfolding MethodRead
         method-outside e = λ n. with-outside s methods j c (more n) z x y (item-out s c e) ∙ q .rest methods n
 
-        pub method-coded : (u : ℕ) → t.Units u ≡ itemAt s c → MethodRead s methods i m (d.Coded p j c u)
+        pub method-coded : {u : ℕ} → t.Units u ≡ itemAt s c → MethodRead s methods i m (d.Coded p j c u)
         unfolding MethodRead
-        method-coded u e =
+        method-coded {u} e =
             let v = item-in s c u e in
             let f = item-facts s c u e in
             record {
-              rest = λ n. ap (λ (k : ℕ). behind (record { method = j; off = c; units = k } ∷ []) (more n)) (v .1) ∙ with-code s methods j c (more n) z x y (v .0) ∙ q .rest methods n;
+              rest = λ n.
+                  ap (λ (k : ℕ). following (record { method = j; off = c; units = k } ∷ []) (more n)) (v .1)
+                  ∙ with-code s methods j c (more n) z x y (v .0)
+                  ∙ q .rest methods n;
               on = q .on;
               inside = q .inside;
               some = f .some;
@@ -105,14 +111,14 @@ module _ (s : List ℕ) (methods i m p j c : ℕ) (q : HeadAt s i m p j c) where
             }
 
 module _ (s : List ℕ) (methods i m : ℕ) (r : Method) (q : MethodRead s methods i m r) where
-  pub bare-told : (p j : ℕ) → r ≡ d.Bare p j → BareAt s methods i m p j
+  pub bare-told : {p j : ℕ} → r ≡ d.Bare p j → BareAt s methods i m p j
   unfolding MethodRead
-  bare-told p j e = subst (MethodRead s methods i m) e q
+  bare-told e = subst (MethodRead s methods i m) e q
 
-  pub coded-told : (p j c u : ℕ) → r ≡ d.Coded p j c u → CodedAt s methods i m p (record { method = j; off = c; units = u })
+  pub coded-told : {p j c u : ℕ} → r ≡ d.Coded p j c u → CodedAt s methods i m p (record { method = j; off = c; units = u })
   unfolding MethodRead
-  coded-told p j c u e = subst (MethodRead s methods i m) e q
+  coded-told e = subst (MethodRead s methods i m) e q
 
-  pub refused-told : (y : Refusal) → r ≡ d.Refused y → (n : ℕ) → refused y ≡ methodsFrom (suc n) s methods i m
+  pub refused-told : {y : Refusal} → r ≡ d.Refused y → (n : ℕ) → refused y ≡ methodsFrom (suc n) s methods i m
   unfolding MethodRead
-  refused-told y e = subst (MethodRead s methods i m) e q
+  refused-told e = subst (MethodRead s methods i m) e q

@@ -16,7 +16,8 @@ use Rattle.leb128.specs.declared.Uleb.the-variants as u
 use Rattle.leb128.specs.declared.Len.{Len}
 use Rattle.leb128.specs.declared.Len.the-variants as l
 use Rattle.leb128.proofs.Laws.{Reason, fast-keeps, fast-reason, len-in, len-reason}
-use Rattle.class_data.specs.Walk.{Walk, behind, andOn, skipped, twoAt, onTwo, sizesAt, onSizes, onSkipped, methodsAt, onMethods, withMethod, codeInside, codeAt, methodsFrom, classDataAt}
+use Rattle.class_data.specs.Walk.{Walk, following, andOn, word, skipped, twoAt, onTwo, sizesAt, onSizes, onSkipped, methodsAt, onMethods}
+use Rattle.class_data.specs.Walk.{mostMethods, codeAt, codeInside, withMethod, methodsFrom, classDataAt}
 use Rattle.class_data.specs.Walk.Walk.{refused, found}
 use Rattle.refusal.specs.declared.Refusal.{Refusal}
 use Rattle.class_data.specs.declared.item.Skipped.{Skipped}
@@ -32,7 +33,7 @@ use Rattle.class_data.proofs.Laws.{code-facts}
 -- what holds of a code found
 pub record CodeIn (s : List ℕ) (m : ℕ) (c : Code) : Type 0 where
   pub index : c .method < m
-  pub small : c .method < 16777216
+  pub small : c .method < mostMethods
   pub some : 0 < c .units
   pub inside : c .off + 16 + 2 * c .units ≤ length s
 
@@ -92,7 +93,8 @@ sizes-keeps : (s : List ℕ) (i : ℕ) → SizesR s (sizesAt s i)
 unfolding sizesAt
 sizes-keeps s i = onTwoP s (twoAt s i) _ (two-keeps s i) (λ a b p _. onTwoP s (twoAt s p) _ (two-keeps s p) (λ d v q x. x))
 
-onSizesP : (s : List ℕ) (r : Sizes) (f : ℕ → ℕ → ℕ → ℕ → Methods) → SizesR s r → ((k d v p : ℕ) → p ≤ length s → MethodsR s (f k d v p)) → MethodsR s (onSizes r f)
+onSizesP : (s : List ℕ) (r : Sizes) (f : ℕ → ℕ → ℕ → ℕ → Methods) → SizesR s r
+    → ((k d v p : ℕ) → p ≤ length s → MethodsR s (f k d v p)) → MethodsR s (onSizes r f)
 onSizesP s (z.At k d v p) f x y = y k d v p x
 onSizesP s (z.Refused r) f x y = x
 
@@ -133,24 +135,27 @@ module _ (s : List ℕ) (m : ℕ) where
   within-from i j (refused r) q h = tt
   within-from i j (found cs e) q h = record { each = h .each; few = omega arith; inside = h .inside }
 
-  within-behind : (i j : ℕ) (cs : List Code) (v : Walk) → Each (CodeIn s m) cs → length cs + i ≤ j → WithinR s m j v → WithinR s m i (behind cs v)
-  within-behind i j cs (refused r) a q h = tt
-  within-behind i j cs (found ds e) a q h =
+  within-following : (i j : ℕ) (cs : List Code) (v : Walk) → Each (CodeIn s m) cs → length cs + i ≤ j → WithinR s m j v
+      → WithinR s m i (following cs v)
+  within-following i j cs (refused r) a q h = tt
+  within-following i j cs (found ds e) a q h =
       record { each = each-append (CodeIn s m) cs ds a (h .each); few = omega (arith, length-append cs ds); inside = h .inside }
 
   within-on : (i : ℕ) (v : Walk) (f : ℕ → Walk) → WithinR s m i v → ((e : ℕ) → e ≤ length s → WithinR s m e (f e)) → WithinR s m i (andOn v f)
   within-on i (refused r) f a b = tt
-  within-on i (found cs e) f a b = within-behind i e cs (f e) (a .each) (a .few) (b e (a .inside))
+  within-on i (found cs e) f a b = within-following i e cs (f e) (a .each) (a .few) (b e (a .inside))
 
   within-method : (i p j c : ℕ) (v : Walk) → i < p → WithinR s m p v → WithinR s m i (withMethod s m j c v)
   within-method i p j c v q h =
       cond-elim (WithinR s m i) (eqb c 0) _ _ (λ _. within-from i p v (omega arith) h) (λ _.
-      cond-elim (WithinR s m i) (ltb j m && ltb j 16777216) _ _
+      cond-elim (WithinR s m i) (ltb j m && ltb j mostMethods) _ _
       (λ a. cond-elim (WithinR s m i) (codeInside s c) _ _
       (λ b.
       let f = code-facts s c b in
-      let k : CodeIn s m (codeAt s j c) = record { index = ltb-true _ _ (and-left (ltb j m) (ltb j 16777216) a); small = ltb-true _ _ (and-right (ltb j m) (ltb j 16777216) a); some = f .some; inside = f .inside } in
-      within-behind i p (codeAt s j c ∷ []) v (k, tt) (omega arith) h)
+      let x = ltb-true _ _ (and-left (ltb j m) (ltb j mostMethods) a) in
+      let y = ltb-true _ _ (and-right (ltb j m) (ltb j mostMethods) a) in
+      let k : CodeIn s m (codeAt s j c) = record { index = x; small = y; some = f .some; inside = f .inside } in
+      within-following i p (codeAt s j c ∷ []) v (k, tt) (omega arith) h)
       (λ _. tt))
       (λ _. tt))
 
@@ -159,16 +164,17 @@ module _ (s : List ℕ) (m : ℕ) where
   methods-within zero i j q = record { each = tt; few = omega arith; inside = q }
   methods-within (suc n) i j q =
       onUlebP (WithinR s m i) (ulebFast s i) _ _ (λ _ _. tt) (λ d a e₁.
-      cond-elim (WithinR s m i) (ltb (j + d % 4294967296) 4294967296) _ _
+      cond-elim (WithinR s m i) (ltb (j + d % word) word) _ _
       (λ _. onUlebP (WithinR s m i) (ulebFast s (i + a)) _ _ (λ _ _. tt) (λ f b e₂.
       onUlebP (WithinR s m i) (ulebFast s (i + a + b)) _ _ (λ _ _. tt) (λ o c e₃.
       let x = fast-keeps _ _ _ _ e₁ in
       let y = fast-keeps _ _ _ _ e₂ in
       let z = fast-keeps _ _ _ _ e₃ in
-      within-method i (i + a + b + c) (j + d % 4294967296) (o % 4294967296) _ (omega arith) (methods-within n (i + a + b + c) (j + d % 4294967296) (z .inside)))))
+      within-method i (i + a + b + c) (j + d % word) (o % word) _ (omega arith) (methods-within n (i + a + b + c) (j + d % word) (z .inside)))))
       (λ _. tt))
 
-  item-within : (r : Methods) (f : ℕ → ℕ → ℕ → Walk) → MethodsR s r → ((d v e : ℕ) → e ≤ length s → WithinR s m e (f d v e)) → WithinR s m 0 (onMethods r f)
+  item-within : (r : Methods) (f : ℕ → ℕ → ℕ → Walk) → MethodsR s r → ((d v e : ℕ) → e ≤ length s → WithinR s m e (f d v e))
+      → WithinR s m 0 (onMethods r f)
   item-within (ms.Refused r) f a b = tt
   item-within (ms.At d v e) f a b = within-from 0 e (f d v e) (omega arith) (b d v e a)
 
@@ -178,8 +184,8 @@ module _ (s : List ℕ) (m : ℕ) where
       item-within (methodsAt s i) _ (methods-keeps s i)
       (λ d v e q. within-on e (methodsFrom d s m e 0) (λ k. methodsFrom v s m k 0) (methods-within d e 0 q) (λ k w. methods-within v k 0 w))
 
-  pub methods-in : (n i j : ℕ) (cs : List Code) (e : ℕ) → i ≤ length s → found cs e ≡ methodsFrom n s m i j → Within s m i cs e
-  methods-in n i j cs e q h = subst (WithinR s m i) (sym h) (methods-within n i j q)
+  pub methods-in : (n i j : ℕ) {cs : List Code} {e : ℕ} → i ≤ length s → found cs e ≡ methodsFrom n s m i j → Within s m i cs e
+  methods-in n i j q h = subst (WithinR s m i) (sym h) (methods-within n i j q)
 
-  pub class-in : (i : ℕ) (cs : List Code) (e : ℕ) → found cs e ≡ classDataAt s m i → Within s m 0 cs e
-  class-in i cs e h = subst (WithinR s m 0) (sym h) (class-within i)
+  pub class-in : (i : ℕ) {cs : List Code} {e : ℕ} → found cs e ≡ classDataAt s m i → Within s m 0 cs e
+  class-in i h = subst (WithinR s m 0) (sym h) (class-within i)

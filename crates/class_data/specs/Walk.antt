@@ -25,14 +25,14 @@ pub data Walk : Type 0 where
   found : List Code → ℕ → Walk
 
 -- cs in front of what a walk finds
-abbrev pub behind : List Code → Walk → Walk
-behind cs (refused r) = refused r
-behind cs (found ds e) = found (cs ++ ds) e
+abbrev pub following : List Code → Walk → Walk
+following cs (refused r) = refused r
+following cs (found ds e) = found (cs ++ ds) e
 
 -- a walk, and then another from the offset after it
 abbrev pub andOn : Walk → (ℕ → Walk) → Walk
 andOn (refused r) f = refused r
-andOn (found cs e) f = behind cs (f e)
+andOn (found cs e) f = following cs (f e)
 
 -- the number at i: f gets its value and the offset after it, and a why the reader refuses
 abbrev pub onNumber {ℓ} : {A : Type ℓ} → List ℕ → ℕ → (Refusal → A) → (ℕ → ℕ → A) → A
@@ -50,6 +50,7 @@ unfoldable pub skipped : ℕ → List ℕ → ℕ → Skipped
 skipped zero s i = skippedTo i
 skipped (suc n) s i = onLen (ulebLen s i) (λ r. k.Refused r) (λ m. skipped n s (i + m))
 
+-- field pairs, index differences and code offsets keep their low 32 bits, and index sums are below this
 abbrev pub word : ℕ
 word = 2 ^ 32
 
@@ -65,7 +66,9 @@ onTwo (n.Refused r) f = z.Refused r
 -- the four sizes at i, and the offset after them. The fields have two numbers for each pair, and the count of pairs is the low 32 bits
 -- of the two sizes' sum
 unfoldable pub sizesAt : List ℕ → ℕ → Sizes
-sizesAt s i = onTwo (twoAt s i) (λ statics instances j. onTwo (twoAt s j) (λ directs virtuals k. z.At (2 * ((statics + instances) % word)) directs virtuals k))
+sizesAt s i =
+    onTwo (twoAt s i) (λ statics instances j.
+    onTwo (twoAt s j) (λ directs virtuals k. z.At (2 * ((statics + instances) % word)) directs virtuals k))
 
 abbrev pub onSizes : Sizes → (ℕ → ℕ → ℕ → ℕ → Methods) → Methods
 onSizes (z.At n d v e) f = f n d v e
@@ -101,7 +104,7 @@ codeInside s c =
 abbrev pub withMethod : List ℕ → ℕ → ℕ → ℕ → Walk → Walk
 withMethod s methods m c rest =
     cond (eqb c 0) rest
-    (cond (ltb m methods && ltb m mostMethods) (cond (codeInside s c) (behind (codeAt s m c ∷ []) rest) (refused CodeOutside)) (refused MethodIndex))
+    (cond (ltb m methods && ltb m mostMethods) (cond (codeInside s c) (following (codeAt s m c ∷ []) rest) (refused CodeOutside)) (refused MethodIndex))
 
 -- n methods from i on; m is the index before them, and `methods` counts the method ids
 unfoldable pub methodsFrom : ℕ → List ℕ → ℕ → ℕ → ℕ → Walk
@@ -116,4 +119,5 @@ methodsFrom (suc n) s methods i m =
 
 -- the class data item at i: its direct methods, and then its virtual methods
 unfoldable pub classDataAt : List ℕ → ℕ → ℕ → Walk
-classDataAt s methods i = onMethods (methodsAt s i) (λ directs virtuals e. andOn (methodsFrom directs s methods e 0) (λ f. methodsFrom virtuals s methods f 0))
+classDataAt s methods i =
+    onMethods (methodsAt s i) (λ directs virtuals e. andOn (methodsFrom directs s methods e 0) (λ f. methodsFrom virtuals s methods f 0))

@@ -2,11 +2,17 @@
 // numbers of its fields and methods, and the units of a method's code item. Nothing is stored here.
 ghost use mathlib.Core.Path.{_≡_};
 ghost use Rattle.class_data.specs.Walk.{skipped, twoAt, sizesAt, methodsAt};
-ghost use Rattle.class_data.specs.Reads.{HeadRead, itemAt, MethodRead};
+ghost use Rattle.class_data.specs.Steps.{HeadRead, itemAt, MethodRead};
 use leb128::Len;
 use leb128::Uleb;
 use refusal::Refusal;
 use structs::Read32;
+
+// Field pairs, index differences and code offsets are taken modulo this, and index sums are below it (`word` of specs/Walk.antt).
+const WORD: u64 = 4294967296;
+
+// Indices of methods with code are below this (`mostMethods` of specs/Walk.antt).
+const MOST_METHODS: u32 = 16777216;
 
 // An offset, where there is one.
 pub(crate) enum Offset {
@@ -95,7 +101,7 @@ fn class_sizes(buf: &[u8], pos: usize) -> Sizes
                     value: instances,
                     len: b,
                 } => {
-                    let fields = 2 * ((statics + instances) % 4294967296);
+                    let fields = 2 * ((statics + instances) % WORD);
                     match read_two(buf, p + b) {
                         Two::Refused(r) => Sizes::Refused(r),
                         Two::At {
@@ -157,8 +163,8 @@ fn method_head(buf: &[u8], pos: usize, idx: u32) -> Head
             value: diff,
             len: n,
         } => {
-            let sum = idx as u64 + diff % 4294967296;
-            if 4294967296 <= sum {
+            let sum = idx as u64 + diff % WORD;
+            if WORD <= sum {
                 return Head::Refused(Refusal::MethodIndex);
             }
             let p = pos + n;
@@ -170,7 +176,7 @@ fn method_head(buf: &[u8], pos: usize, idx: u32) -> Head
                         Uleb::Refused(r) => Head::Refused(r),
                         Uleb::Number { value: off, len: k } => {
                             let next = q + k;
-                            let code = (off % 4294967296) as u32;
+                            let code = (off % WORD) as u32;
                             Head::At {
                                 pos: next,
                                 idx: sum as u32,
@@ -237,7 +243,7 @@ pub(crate) fn method_code(buf: &[u8], methods: u32, pos: usize, idx: u32) -> Met
             if methods <= j {
                 return Method::Refused(Refusal::MethodIndex);
             }
-            if 16777216 <= j {
+            if MOST_METHODS <= j {
                 return Method::Refused(Refusal::MethodIndex);
             }
             let Item::Units(units) = code_item(buf, code) else {

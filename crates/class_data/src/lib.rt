@@ -4,15 +4,14 @@ mod item; // item.rt: one class data item as it is read
 mod parse; // parse.rt: one class data item walked
 
 ghost use mathlib.Core.Path.{_≡_};
-ghost use Prim.Native.Nat.{_+_, _*_, _<_, _≤_, _^_};
+ghost use Prim.Native.Nat.{_+_, _≤_};
 ghost use lib.ListN.{length};
 ghost use Rattle.dalvik.specs.Numbers.{le32};
 ghost use Rattle.refusal.specs.Refusals.{largestFile};
-ghost use Rattle.class_data.specs.Reads.{place};
 ghost use Rattle.class_data.specs.Codes.{successive, defined, mapEntry, codesOf};
 ghost use Rattle.class_data.specs.Stored.{codeWords};
 ghost use Rattle.class_data.specs.Found.{codesFor, GivesCodes};
-ghost use Rattle.class_data.specs.Steps.{kept, stored, seen, EntryPre, DefPre, OneDefined, FitCodes};
+ghost use Rattle.class_data.specs.Steps.{kept, stored, seen, place, EntryPre, DefPre, OneDefined, FitCodes};
 use item::Offset;
 use parse::Walked;
 use refusal::Answer;

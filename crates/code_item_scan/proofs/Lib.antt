@@ -1,3 +1,4 @@
 pub mod Sets
+pub mod Listed
 pub mod Starts
 pub mod Whole

@@ -14,14 +14,14 @@ use native.Mathlib.Omega.{arith}
 use lib.Dec.{ltb, eqb}
 use lib.ListN.{length, getD, set, take}
 use lib.Seq.{take-suc, getD-set-same, getD-set-other}
-use borrow.Author.Tests.{eq-eqb, ne-eqb, eqb-true, eqb-false, ltb-true, ltb-false, lt-ltb, le-ltb, le-leb, lt-leb}
+use borrow.Author.Tests.{eq-eqb, ne-eqb, eqb-true, eqb-false, ltb-true, ltb-false, lt-ltb, le-ltb, le-leb}
 use Rattle.dalvik.specs.Instructions.{Kind}
 use Rattle.dalvik.specs.Instructions.Kind.{strings}
 use Rattle.kinds.specs.Kinds.{isStrings}
 use Rattle.words.proofs.Shared.{case}
 use Rattle.index_set.specs.Bits.{isHeld, Adds}
 use Rattle.code_item_scan.specs.Scan.{isIn}
-use Rattle.code_item_scan.specs.Next.{IndexSet, indexSet, tabled, listed, holds, Tells}
+use Rattle.code_item_scan.specs.Next.{IndexSet, indexSet, indexCount, listed, holds, Tells}
 use Rattle.code_item_scan.specs.Steps.{bit, Told, TableOf, NoneHeld, WantedOf}
 
 or-assoc : (a b c : Bool) → (a || b) || c ≡ a || (b || c)
@@ -65,8 +65,8 @@ module _ (x : ℕ) (l : List ℕ) (i : ℕ) (some : 0 < i) (h : i ≤ length l) 
       ap (λ (j : ℕ). isIn x (take j l)) k ∙ isIn-no-more x l (i - 1) (omega arith) n
 
 -- the table of the wanted indices of two bytes
-module _ (l t : List ℕ) (i : ℕ) (h : i < length l) (e : (y : ℕ) → y < 65536 → getD t y 0 ≡ bit (isIn y (take i l))) where
-  pub table-marked : length t ≡ 65536 → (y : ℕ) → y < 65536 → getD (set t (getD l i 0) 1) y 0 ≡ bit (isIn y (take (i + 1) l))
+module _ (l t : List ℕ) (i : ℕ) (h : i < length l) (e : (y : ℕ) → y < indexCount → getD t y 0 ≡ bit (isIn y (take i l))) where
+  pub table-marked : length t ≡ indexCount → (y : ℕ) → y < indexCount → getD (set t (getD l i 0) 1) y 0 ≡ bit (isIn y (take (i + 1) l))
   table-marked n y k =
       ⊎-elim
       (λ q.
@@ -77,7 +77,7 @@ module _ (l t : List ℕ) (i : ℕ) (h : i < length l) (e : (y : ℕ) → y < 65
       rw (isIn-no-more y l i h z) (getD-set-other t (getD l i 0) y 1 0 (λ f. z (sym f)) ∙ e y k))
       (case (eqb y (getD l i 0)))
 
-  pub table-passed : 65536 ≤ getD l i 0 → (y : ℕ) → y < 65536 → getD t y 0 ≡ bit (isIn y (take (i + 1) l))
+  pub table-passed : indexCount ≤ getD l i 0 → (y : ℕ) → y < indexCount → getD t y 0 ≡ bit (isIn y (take (i + 1) l))
   table-passed n y k = rw (isIn-no-more y l i h (λ z. omega arith)) (e y k)
 
 bit-one : (b : Bool) → ltb 0 (bit b) ≡ b
@@ -89,7 +89,7 @@ pub table-tells : (wanted table bits : List ℕ) (kind : Kind) → isStrings kin
     → Tells (indexSet table bits false wanted) kind (λ x. isIn x wanted)
 unfolding holds
 table-tells wanted table bits kind k t x small =
-    rw (k, le-leb 65536 (length table) (omega (arith, t .long)), t .at x (small k)) (bit-one (isIn x wanted))
+    rw (k, le-leb indexCount (length table) (omega (arith, t .long)), t .at x (small k)) (bit-one (isIn x wanted))
 
 -- the set of the wanted words: none before the first word
 pub wanted-none : (l : List ℕ) {bits : List ℕ} → NoneHeld bits → WantedOf (take 0 l) bits false
@@ -122,7 +122,9 @@ module _ (l : List ℕ) (i : ℕ) (h : i < length l) {b b′ : List ℕ} {o r : 
 
   pub wanted-out : not r ≡ true → WantedOf (take (i + 1) l) b′ true
   wanted-out n = let e : r ≡ false = not-true r n in record {
-    at = λ x k. d .held x ∙ rw (e, w .at x (omega (arith, d .long))) (or-false (isIn x (take i l)) ∙ sym (isIn-no-more x l i h (λ z. omega (arith, stays-out e, d .long))));
+    at =
+        λ x k. d .held x ∙ rw (e, w .at x (omega (arith, d .long)))
+        (or-false (isIn x (take i l)) ∙ sym (isIn-no-more x l i h (λ z. omega (arith, stays-out e, d .long))));
     none-other = λ f x k. absurd (let z : _≡_ {A = ℕ} 0 1 = cc in omega arith);
   }
 

@@ -10,7 +10,7 @@ use mathlib.Core.Path.{_≡_, refl, ap, sym, _∙_, subst}
 use mathlib.Core.Bool.{Bool, true, false, _&&_, cond}
 use mathlib.Core.Option.{Option, none, some}
 use mathlib.Core.List.{List, [], _∷_}
-use mathlib.Core.Logic.{_⊎_, inl, inr, ⊎-elim}
+use mathlib.Core.Logic.{inl, inr, ⊎-elim}
 use Prim.Native.Nat.{ℕ, zero, suc, _+_, _-_, _%_, _≤_, _<_, min}
 use native.Mathlib.Numerals.{add-one}
 use native.Mathlib.Omega.{arith}
@@ -21,17 +21,18 @@ use Rattle.memchr.specs.First.{Is, Either, First}
 use Rattle.memchr.proofs.Firsts.{onward}
 use Rattle.dalvik.specs.Numbers.{byte, le16, le32}
 use Rattle.dalvik.specs.Instructions.{Kind}
-use Rattle.dalvik.specs.Instructions.Kind.{strings, types, fields, methods}
+use Rattle.dalvik.specs.Instructions.Kind.{strings}
 use Rattle.structs.specs.Reads.{HalfAt}
 use Rattle.kinds.specs.Kinds.{isStrings}
 use Rattle.kinds.specs.Width.{widthOf}
 use Rattle.kinds.proofs.Widths.{width-even, width-any, strings-only}
 use Rattle.code_item_scan.specs.Scan.{Hit, indexAt, isTried, Sought, sought, isHit, hitsIn, hitsBy}
-use Rattle.code_item_scan.specs.Next.{IndexSet, indexSet, tabled, listed, Tells, onFrom, FirstHit, Finds}
-use Rattle.code_item_scan.specs.Steps.{namedBy, named, Told, EvenHit, Came, Skipped, SkippedEven, FindsEven}
+use Rattle.code_item_scan.specs.Next.{IndexSet, indexSet, indexCount, tabled, listed, Tells, onFrom, FirstHit, Finds}
+use Rattle.code_item_scan.specs.Steps.{namedBy, named, Told, EvenHit, Skipped, SkippedEven, FindsEven}
 use Rattle.code_item_scan.specs.declared.Found.{Found}
 use Rattle.code_item_scan.specs.declared.Found.the-variants.{At, Nothing}
 use Rattle.code_item_scan.proofs.Sets.{tells-listed, tells-table}
+use Rattle.code_item_scan.proofs.Listed.{tried-even}
 
 -- ---- the index
 
@@ -179,13 +180,6 @@ module _ (s : List ℕ) (kind : Kind) (wants : ℕ → Bool) (from to : ℕ) whe
   unfolding hitsBy
   hits-alike wants′ f = alike wants′ f (to - from) from
 
-tried-even : (kind : Kind) (d : ℕ) → isStrings kind ≡ false → isTried kind d ≡ eqb (d % 2) 0
-unfolding isTried
-tried-even strings d e = let z : _≡_ {A = ℕ} 0 1 = cc in absurd (omega arith)
-tried-even types d e = refl
-tried-even fields d e = refl
-tried-even methods d e = refl
-
 tried-strings : (d : ℕ) → isTried strings d ≡ true
 unfolding isTried
 tried-strings d = refl
@@ -208,6 +202,12 @@ module _ {s : List ℕ} {Q : Sought} where
   finds-nothing h = record { hit = λ o m n e. absurd (let z : _≡_ {A = ℕ} 0 1 = cc in omega arith); none-left = λ e. h }
 
 -- ---- from one start to another
+
+-- no hit starts before p, from which on the rest is the same
+pub record Came (s : List ℕ) (Q : Sought) (p : ℕ) : Type 0 where
+  pub same : hitsBy s Q ≡ hitsBy s (onFrom Q p)
+  pub onward : Q .from ≤ p
+  pub inside : p ≤ Q .to
 
 module _ {s : List ℕ} {Q : Sought} where
   pub came-on : {p r : ℕ} → Came s Q p → Came s (onFrom Q p) r → Came s Q r
@@ -286,7 +286,8 @@ module _ (s : List ℕ) (kind : Kind) (wants : ℕ → Bool) (to p : ℕ) (k : i
   unfolding hitsBy
   odd-moved =
       let e : p + 1 + 1 ≡ p + 2 = omega arith in
-      let t : isTried kind (p + 1 - p) ≡ false = tried-even kind (p + 1 - p) k ∙ ne-eqb ((p + 1 - p) % 2) 0 (λ (z : (p + 1 - p) % 2 ≡ 0). omega arith) in
+      let t : isTried kind (p + 1 - p) ≡ false =
+      tried-even kind (p + 1 - p) k ∙ ne-eqb ((p + 1 - p) % 2) 0 (λ (z : (p + 1 - p) % 2 ≡ 0). omega arith) in
       miss s kind wants p to (p + 1) (omega arith) (no-tries s kind wants p to (p + 1) t)
       ∙ ap (λ (q : ℕ). hitsIn (to - q) s (sought kind wants p to) q) e
       ∙ moved s kind wants p to (p + 2) (to - (p + 2)) (p + 2)
@@ -315,10 +316,10 @@ and-false false = refl
 
 -- what a table says of an index
 tabled-none : (table : List ℕ) (x : ℕ) → getD table x 0 ≡ 0 → tabled table x ≡ false
-tabled-none table x e = rw e (and-false (leb 65536 (length table)))
+tabled-none table x e = rw e (and-false (leb indexCount (length table)))
 
-tabled-some : (table : List ℕ) (x : ℕ) → 65536 ≤ length table → (getD table x 0 ≡ 0 → ⊥) → tabled table x ≡ true
-tabled-some table x h n = rw (le-leb 65536 (length table) h, lt-ltb 0 (getD table x 0) (omega arith))
+tabled-some : (table : List ℕ) (x : ℕ) → indexCount ≤ length table → (getD table x 0 ≡ 0 → ⊥) → tabled table x ≡ true
+tabled-some table x h n = rw (le-leb indexCount (length table) h, lt-ltb 0 (getD table x 0) (omega arith))
 
 module _ (s : List ℕ) (to : ℕ) (table : List ℕ) (p : ℕ) where
   pub even-skipped-none : p ≤ to → SkippedEven s to table p p
@@ -343,13 +344,14 @@ module _ (s : List ℕ) (kind : Kind) (table : List ℕ) (p : ℕ) (k : isString
   pub even-hit-other : 0 ≡ widthOf kind (byte s p) → EvenHit s kind table p none
   even-hit-other e = record { is = λ wants to t h. named-other s kind wants to p e }
 
-  pub even-hit-wanted : (x : ℕ) → 65536 ≤ length table → HalfAt s (p + 2) x → (getD table x 0 ≡ 0 → ⊥) → (widthOf kind (byte s p) ≡ 0 → ⊥)
+  pub even-hit-wanted : (x : ℕ) → indexCount ≤ length table → HalfAt s (p + 2) x → (getD table x 0 ≡ 0 → ⊥) → (widthOf kind (byte s p) ≡ 0 → ⊥)
       → EvenHit s kind table p (some x)
   unfolding indexAt
   even-hit-wanted x l i z n =
       record {
         is = λ wants to t h.
-            named-wanted s kind wants to p 2 x (⊎-elim (λ e. absurd (n e)) (λ e. sym e) (width-even kind (byte s p) k)) (omega arith) (omega arith) (i .is)
+            named-wanted s kind wants to p 2 x (⊎-elim (λ e. absurd (n e)) (λ e. sym e) (width-even kind (byte s p) k)) (omega arith) (omega arith)
+            (i .is)
             (sym (t x (i .small)) ∙ tabled-some table x l z);
       }
 
@@ -401,8 +403,8 @@ module _ (s : List ℕ) (kind : Kind) (v w : ℕ → Bool) (same : (x : ℕ) →
       record { hit = λ o m n e. first-alike (f .hit o m n e); none-left = λ e. sym (hits-alike s kind v from to w same) ∙ f .none-left e }
 
 module _ (s : List ℕ) (kind : Kind) (wants : ℕ → Bool) (from to : ℕ) (k : isStrings kind ≡ false) (bytes : (i : ℕ) → byte s i < 256)
-    (none-wanted : (x : ℕ) → x < 65536 → wants x ≡ false) where
-  two-bytes : (p : ℕ) → le16 s p < 65536
+    (none-wanted : (x : ℕ) → x < indexCount → wants x ≡ false) where
+  two-bytes : (p : ℕ) → le16 s p < indexCount
   unfolding le16
   two-bytes p = omega (arith, bytes p, bytes (p + 1))
 
@@ -433,11 +435,11 @@ module _ (s : List ℕ) (W : IndexSet) (kind : Kind) (from to to′ : ℕ) (cut 
       (subst (λ (j : Kind). Finds s (sought j (listed W) from to) r) (sym (strings-only kind k)) f))
 
   module _ (k : isStrings kind ≡ false) where
-    pub tells-short : length (W .table) < 65536 → ((i : ℕ) → byte s i < 256) → (wants : ℕ → Bool) → Tells W kind wants
+    pub tells-short : length (W .table) < indexCount → ((i : ℕ) → byte s i < 256) → (wants : ℕ → Bool) → Tells W kind wants
         → Finds s (sought kind wants from to′) Nothing
     tells-short h bytes wants t =
         finds-nothing
-        (none-hit s kind wants from to′ k bytes (λ x l. sym (tells-table W kind wants t k x l) ∙ rw (lt-leb 65536 (length (W .table)) h)))
+        (none-hit s kind wants from to′ k bytes (λ x l. sym (tells-table W kind wants t k x l) ∙ rw (lt-leb indexCount (length (W .table)) h)))
 
     pub tells-even : {r : Found} → FindsEven s kind (W .table) from to r → (wants : ℕ → Bool) → Tells W kind wants
         → Finds s (sought kind wants from to′) r

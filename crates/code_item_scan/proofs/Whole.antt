@@ -11,7 +11,7 @@ use lib.Dec.{leb}
 use lib.ListN.{length, set, length-map, length-replicate, length-set}
 use lib.Seq.{sets, length-sets}
 use borrow.Author.Tests.{le-leb, lt-leb, leb-true, ltb-false}
-use Rattle.words.specs.Padded.{padded, zeros}
+use Rattle.words.specs.Padded.{zeros}
 use Rattle.words.proofs.Padded.{padded-none, sets-zeros}
 use Rattle.words.proofs.Shared.{and-left, and-right}
 use Rattle.refusal.specs.Refusals.{refusalNumber, largestFile}
@@ -24,7 +24,7 @@ use Rattle.kinds.specs.Kinds.{meant}
 use Rattle.code_item_scan.specs.declared.refusals.Admission.{Admission}
 use Rattle.code_item_scan.specs.declared.refusals.Admission.the-variants.{Scan, Refuse}
 use Rattle.code_item_scan.specs.Scan as S
-use Rattle.code_item_scan.specs.Answers.{HitWords, hitWords, hitRoomOf, Gives}
+use Rattle.code_item_scan.specs.Answers.{HitWords, hitRoomOf, Gives}
 use Rattle.code_item_scan.specs.Steps.{Admitted, large, unknown, backward, past-end, scan, Cleared, fitsBoth, Settled, Collected, Region}
 
 -- ---- what an admission says
@@ -110,7 +110,8 @@ module _ (n : ℕ) (before : HitWords) where
       → Settled n before after (Refused LentTooShort)
   settle-cleared after h z =
       let e : fitsBoth n before ≡ false =
-      ⊎-elim (λ a. rw (lt-leb n (length (before .offs)) a)) (λ b. rw (lt-leb n (length (before .marks)) b) (and-false (leb n (length (before .offs))))) h in
+      ⊎-elim (λ a. rw (lt-leb n (length (before .offs)) a))
+      (λ b. rw (lt-leb n (length (before .marks)) b) (and-false (leb n (length (before .offs))))) h in
       record { answer = rw e; starts = rw e (z .starts); indices = rw e (z .indices) }
 
 pub gives-refused : {o : S.Scan} {before after : HitWords} (why : Refusal) → o ≡ S.noScan (refusalNumber why) → Cleared before after
@@ -125,7 +126,7 @@ gives-refused {before = before} why e z =
     })
 
 -- hits collected into zeros, and settled
-module _ {o : S.Scan} {r : Answer} (before cleared filled after : HitWords) {n : ℕ} (hits : List S.Hit)
+module _ {o : S.Scan} {r : Answer} {before cleared filled after : HitWords} {n : ℕ} {hits : List S.Hit}
     (e : o ≡ S.scanned (hitRoomOf before) hits) (z : Cleared before cleared) (g : Collected hits cleared filled n) (t : Settled n filled after r) where
   offs-long : length (filled .offs) ≡ length (before .offs)
   offs-long = ap length (g .starts) ∙ simp (length-sets, z .starts, length-replicate)
@@ -137,7 +138,8 @@ module _ {o : S.Scan} {r : Answer} (before cleared filled after : HitWords) {n :
       → after .marks ≡ filled .marks
       → Gives o r before after
   fits a b er eo em =
-      let f : o ≡ record { number = 0; hits = hits } = e ∙ simp (le-leb (length hits) (length (before .offs)) a, le-leb (length hits) (length (before .marks)) b) in
+      let f : o ≡ record { number = 0; hits = hits } =
+      e ∙ simp (le-leb (length hits) (length (before .offs)) a, le-leb (length hits) (length (before .marks)) b) in
       rw (f, er)
       (record {
         number = refl;
@@ -155,7 +157,8 @@ module _ {o : S.Scan} {r : Answer} (before cleared filled after : HitWords) {n :
       let f : S.scanned (hitRoomOf before) hits ≡ S.noScan 4 = rw (← g .counted, ← offs-long, ← marks-long, q) in
       let er : r ≡ Refused LentTooShort = t .answer ∙ rw q in
       rw er
-      (gives-refused LentTooShort (e ∙ f) (record { starts = t .starts ∙ rw q (ap zeros offs-long); indices = t .indices ∙ rw q (ap zeros marks-long) }))
+      (gives-refused LentTooShort (e ∙ f)
+      (record { starts = t .starts ∙ rw q (ap zeros offs-long); indices = t .indices ∙ rw q (ap zeros marks-long) }))
 
   pub gives-settled : Gives o r before after
   gives-settled = settled-by (fitsBoth n filled) refl

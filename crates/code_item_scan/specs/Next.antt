@@ -9,7 +9,7 @@ use lib.Dec.{ltb, leb}
 use Rattle.dalvik.specs.Instructions.{Kind}
 use Rattle.kinds.specs.Kinds.{isStrings}
 use Rattle.index_set.specs.Bits.{isHeld}
-use Rattle.code_item_scan.specs.Scan.{isIn, Hit, Sought, sought, hitsBy}
+use Rattle.code_item_scan.specs.Scan.{isIn, Sought, sought, hitsBy}
 use Rattle.code_item_scan.specs.declared.Found.{Found}
 use Rattle.code_item_scan.specs.declared.Found.the-variants.{At, Nothing}
 
@@ -23,9 +23,13 @@ pub record IndexSet : Type 0 where
 abbrev pub indexSet : List ℕ → List ℕ → Bool → List ℕ → IndexSet
 indexSet table bits others words = record { table = table; bits = bits; others = others; words = words }
 
+-- how many indices of two bytes there are
+abbrev pub indexCount : ℕ
+indexCount = 65536
+
 -- a short table holds nothing
 abbrev pub tabled : List ℕ → ℕ → Bool
-tabled table x = leb 65536 (length table) && ltb 0 (getD table x 0)
+tabled table x = leb indexCount (length table) && ltb 0 (getD table x 0)
 
 -- by its bit, or past the bits among the words
 unfoldable pub listed : IndexSet → ℕ → Bool
@@ -36,7 +40,7 @@ holds W kind x = cond (isStrings kind) (listed W x) (tabled (W .table) x)
 
 -- the set tells which indices are wanted; those of a kind other than strings have two bytes
 abbrev pub Tells : IndexSet → Kind → (ℕ → Bool) → Type 0
-Tells W kind wants = (x : ℕ) → (isStrings kind ≡ false → x < 65536) → holds W kind x ≡ wants x
+Tells W kind wants = (x : ℕ) → (isStrings kind ≡ false → x < indexCount) → holds W kind x ≡ wants x
 
 -- the same from a later start
 abbrev pub onFrom : Sought → ℕ → Sought

@@ -21,8 +21,8 @@ use Rattle.kinds.specs.Width.{widthOf}
 use Rattle.kinds.specs.Kinds.{isStrings, kindOf, meant}
 use Rattle.index_set.specs.Bits.{isHeld}
 use Rattle.code_item_scan.specs.Scan as S
-use Rattle.code_item_scan.specs.Scan.{Sought, sought, indexAt, isIn, hitsBy}
-use Rattle.code_item_scan.specs.Next.{tabled, onFrom, Finds}
+use Rattle.code_item_scan.specs.Scan.{sought, indexAt, isIn, hitsBy}
+use Rattle.code_item_scan.specs.Next.{indexCount, tabled, Finds}
 use Rattle.code_item_scan.specs.Answers.{HitWords}
 use Rattle.code_item_scan.specs.declared.Found.{Found}
 use Rattle.code_item_scan.specs.declared.hits.Hit.{Hit}
@@ -63,8 +63,8 @@ bit false = 0
 
 -- a table of the wanted indices of two bytes
 pub record TableOf (wanted table : List ℕ) : Type 0 where
-  pub long : length table ≡ 65536
-  pub at : (x : ℕ) → x < 65536 → getD table x 0 ≡ bit (isIn x wanted)
+  pub long : length table ≡ indexCount
+  pub at : (x : ℕ) → x < indexCount → getD table x 0 ≡ bit (isIn x wanted)
 
 -- no index is held
 abbrev pub NoneHeld : List ℕ → Type 0
@@ -90,19 +90,13 @@ named s kind wants to p = namedBy s wants to p (widthOf kind (byte s p))
 
 -- a table that tells for each index of two bytes whether it is wanted
 abbrev pub Told : List ℕ → (ℕ → Bool) → Type 0
-Told table wants = (x : ℕ) → x < 65536 → tabled table x ≡ wants x
+Told table wants = (x : ℕ) → x < indexCount → tabled table x ≡ wants x
 
 -- what an index of two bytes, looked up in a table, tells of a start
 pub record EvenHit (s : List ℕ) (kind : dalvik.Kind) (table : List ℕ) (p : ℕ) (mark : Option ℕ) : Type 0 where
   pub is : (wants : ℕ → Bool) (to : ℕ) → Told table wants → p + 4 ≤ to → mark ≡ named s kind wants to p
 
 -- ---- starts that are skipped
-
--- no hit starts before p, from which on the rest is the same
-pub record Came (s : List ℕ) (Q : Sought) (p : ℕ) : Type 0 where
-  pub same : hitsBy s Q ≡ hitsBy s (onFrom Q p)
-  pub onward : Q .from ≤ p
-  pub inside : p ≤ Q .to
 
 -- no string hit starts from p up to r
 pub record Skipped (s : List ℕ) (to p r : ℕ) : Type 0 where

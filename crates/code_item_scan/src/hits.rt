@@ -8,7 +8,7 @@ ghost use lib.ListN.{length};
 ghost use Rattle.dalvik.specs.Instructions.Kind.{strings};
 ghost use Rattle.kinds.specs.Kinds.{isStrings, meant};
 ghost use Rattle.code_item_scan.specs.Scan.{sought};
-ghost use Rattle.code_item_scan.specs.Next.{indexSet, listed, Finds};
+ghost use Rattle.code_item_scan.specs.Next.{indexCount, indexSet, listed, Finds};
 ghost use Rattle.code_item_scan.specs.Steps.{marked, named, EvenHit, Skipped, SkippedEven, FindsEven};
 use super::Found;
 use super::reads;
@@ -85,7 +85,7 @@ pub(crate) fn next_string(
 
 // A hit of a kind whose indices have two bytes. The index is tested first: few are wanted.
 fn even_hit(s: &[u8], kind: Kind, table: &[u8], at: usize) -> Hit
-    requires { ⌜ (at + 4 ≤ length (now s)) × (65536 ≤ length (now table)) × (isStrings (meant kind) ≡ false) ⌝ }
+    requires { ⌜ (at + 4 ≤ length (now s)) × (indexCount ≤ length (now table)) × (isStrings (meant kind) ≡ false) ⌝ }
     ensures { λ r. ⌜ EvenHit (now (s .entry)) (meant kind) (now (table .entry)) at (marked r) ⌝ }
 {
     let x = reads::u16_inside(s, at + 2);
@@ -100,7 +100,7 @@ fn even_hit(s: &[u8], kind: Kind, table: &[u8], at: usize) -> Hit
 
 // The next of every second start from `start` on at which a wanted index of two bytes stands, or one too near the end for an index.
 fn skip_even(s: &[u8], end: usize, table: &[u8], start: usize) -> usize
-    requires { ⌜ (start ≤ end) × (end ≤ length (now s)) × (65536 ≤ length (now table)) ⌝ }
+    requires { ⌜ (start ≤ end) × (end ≤ length (now s)) × (indexCount ≤ length (now table)) ⌝ }
     ensures { λ r. ⌜ SkippedEven (now (s .entry)) end (now (table .entry)) start r ⌝ }
 {
     let mut at = start;
@@ -116,7 +116,7 @@ fn skip_even(s: &[u8], end: usize, table: &[u8], start: usize) -> usize
 
 // The next hit of a kind other than strings.
 pub(crate) fn next_even(s: &[u8], end: usize, kind: Kind, table: &[u8], start: usize) -> Found
-    requires { ⌜ (start ≤ end) × (end ≤ length (now s)) × (65536 ≤ length (now table)) × (isStrings (meant kind) ≡ false) ⌝ }
+    requires { ⌜ (start ≤ end) × (end ≤ length (now s)) × (indexCount ≤ length (now table)) × (isStrings (meant kind) ≡ false) ⌝ }
     ensures { λ r. ⌜ FindsEven (now (s .entry)) (meant kind) (now (table .entry)) start end r ⌝ }
 {
     let mut at = skip_even(s, end, table, start);

@@ -53,7 +53,7 @@ pub fn next_hit(
     if kinds::is_strings(kind) {
         return hits::next_string(file, to, bits, others, words, start);
     }
-    if table.len() < 65536 {
+    if table.len() < wanted::INDICES {
         return Found::Nothing;
     }
     hits::next_even(file, to, kind, table, start)
@@ -185,7 +185,7 @@ fn collect_even(
         ⌜ Collected (hitsOf (now (file .entry)) (meant kind) (now (wanted .entry)) start end) before after r ⌝ }
 {
     let bits = [0u64; 1];
-    let mut table = [0u8; 65536];
+    let mut table = [0u8; wanted::INDICES];
     wanted::table_of(wanted, &mut table);
     collect(
         file,

@@ -3,19 +3,22 @@ ghost use mathlib.Core.Path.{_≡_};
 ghost use mathlib.Core.List.{[]};
 ghost use lib.ListN.{replicate};
 ghost use Rattle.code_item_scan.specs.Scan.{isIn};
-ghost use Rattle.code_item_scan.specs.Next.{indexSet, listed};
+ghost use Rattle.code_item_scan.specs.Next.{indexSet, indexCount, listed};
 ghost use Rattle.code_item_scan.specs.Steps.{TableOf, NoneHeld, WantedOf};
 
+// How many indices of two bytes there are (`indexCount` of specs/Next.antt).
+pub(crate) const INDICES: usize = 65536;
+
 // A table of the indices of two bytes: 1 where the index is wanted, else 0.
-pub(crate) fn table_of(wanted: &[u32], table: &mut [u8; 65536])
-    requires { ⌜ now table ≡ replicate 65536 0 ⌝ }
+pub(crate) fn table_of(wanted: &[u32], table: &mut [u8; INDICES])
+    requires { ⌜ now table ≡ replicate indexCount 0 ⌝ }
     ensures { λ _. ⌜ TableOf (now (wanted .entry)) (now (table .exit)) ⌝ }
 {
     let mut i = 0;
     while i < wanted.len() {
-        let x = wanted[i];
-        if x < 65536 {
-            table[x as usize] = 1;
+        let x = wanted[i] as usize;
+        if x < INDICES {
+            table[x] = 1;
         }
         i += 1;
     }

@@ -7,7 +7,7 @@ use mathlib.Core.Path.{_≡_, refl, sym, ap, ap₂, subst, subst⁻¹, _∙_}
 use mathlib.Core.List.{List, [], _∷_}
 use mathlib.Core.Logic.{_⊎_, ⊎-elim}
 use mathlib.Core.Bool.{true, _&&_}
-use Prim.Native.Nat.{ℕ, zero, suc, _-_, _*_, _≤_, _<_}
+use Prim.Native.Nat.{ℕ, suc, _-_, _*_, _≤_, _<_}
 use native.Mathlib.Omega.{arith}
 use lib.Dec.{leb}
 use lib.ListN.{length, getD}
@@ -26,7 +26,7 @@ use Rattle.code_table.specs.Slots.{baseOf, topOf, tableOf}
 use Rattle.code_table.specs.RegionEnd.{regionEnd}
 use Rattle.code_table.specs.Build.{Room, Build, noBuild, wholeBuild, builtFrom, mostShares}
 use Rattle.code_table.specs.Answer.{TableWords, tableWords, roomOf, GivesBuild}
-use Rattle.code_table.specs.Steps.{noCode, Triples, room, SlotWords, slotWords, HoldsAll, TabledAs}
+use Rattle.code_table.specs.Steps.{noCode, mostBuckets, Triples, room, SlotWords, slotWords, HoldsAll, TabledAs}
 use Rattle.code_table.specs.declared.Tabled.{Tabled}
 use Rattle.code_table.specs.declared.Tabled.the-variants.{Filled, Short}
 use Rattle.code_table.specs.declared.Built.the-variants.{Done, Refused}
@@ -47,12 +47,12 @@ base-top (c ∷ cs) h =
     let t : lastBucket c < topOf (c ∷ cs) = top-greatest (c ∷ cs) 0 (omega arith) in
     omega arith
 
-module _ (ts : List ℕ) (n : ℕ) (cs : List Code) (T : Triples ts n cs) where
+module _ {ts : List ℕ} {n : ℕ} {cs : List Code} (T : Triples ts n cs) where
   rising : (i : ℕ) → i < length cs → firstBucket (getD cs i noCode) ≤ lastBucket (getD cs i noCode)
   rising i h = T .sound i (omega (arith, T .count)) .rises
 
-  pub top-small : topOf cs ≤ 1048576
-  top-small = top-bound 1048576 cs (λ i h. T .sound i (omega (arith, T .count)) .inside)
+  pub top-small : topOf cs ≤ mostBuckets
+  top-small = top-bound mostBuckets cs (λ i h. T .sound i (omega (arith, T .count)) .inside)
 
   pub base-below : baseOf cs ≤ topOf cs
   base-below = base-top cs rising
@@ -60,7 +60,8 @@ module _ (ts : List ℕ) (n : ℕ) (cs : List Code) (T : Triples ts n cs) where
 -- ---- the outcome of codes found
 module _ (len m e : ℕ) (lent : Room) (cs : List Code) where
   pub from-whole : 3 * length cs ≤ lent .triples → topOf cs - baseOf cs ≤ lent .slots
-      → length (tableOf cs .shares) ≤ lent .shares → length (tableOf cs .shares) ≤ mostShares → builtFrom len m lent (found cs e) ≡ wholeBuild len m cs
+      → length (tableOf cs .shares) ≤ lent .shares → length (tableOf cs .shares) ≤ mostShares
+      → builtFrom len m lent (found cs e) ≡ wholeBuild len m cs
   from-whole p q r s =
       rw (
         le-leb (3 * length cs) (lent .triples) p,
@@ -122,11 +123,12 @@ gives-none b r before after e z =
 abbrev pub slotsIn : TableWords → SlotWords
 slotsIn w = slotWords (w .slots) (w .shares)
 
-module _ (len n : ℕ) (cs : List Code) (before : TableWords) (T : Triples (before .triples) n cs) (m e : ℕ) where
-  pub whole : (b t k x : ℕ) (w : SlotWords) → HoldsAll cs b t k (slotsIn before) w → x ≡ regionEnd len cs → before .starts ≡ padded (length (before .starts)) (startsOf m cs)
+module _ (len : ℕ) {n : ℕ} {cs : List Code} (before : TableWords) (T : Triples (before .triples) n cs) (m e : ℕ) where
+  pub whole : {b t k x : ℕ} {w : SlotWords} → HoldsAll cs b t k (slotsIn before) w → x ≡ regionEnd len cs
+      → before .starts ≡ padded (length (before .starts)) (startsOf m cs)
       → GivesBuild (builtFrom len m (roomOf before) (found cs e)) (Done (record { start = b * 16; end = x }) n (t - b) k)
       before (tableWords (before .starts) (before .triples) (w .slots) (w .shares))
-  whole b t k x w A E s =
+  whole {b} {t} {k} {x} {w} A E s =
       let H = A .held in
       let p : 3 * length cs ≤ length (before .triples) = omega (arith, T .there, T .count) in
       let q : length (tableOf cs .shares) ≤ room (length (before .shares)) = omega (arith, H .used, H .fits) in
@@ -138,7 +140,7 @@ module _ (len n : ℕ) (cs : List Code) (before : TableWords) (T : Triples (befo
         from = ap (λ (x : ℕ). x * 16) (A .base);
         to = E;
         code-count = omega (arith, length-triples cs, T .count);
-        slot-count = ap₂ (λ (x y : ℕ). x - y) (A .top) (A .base) ∙ sym (table-length cs (rising (before .triples) n cs T));
+        slot-count = ap₂ (λ (x y : ℕ). x - y) (A .top) (A .base) ∙ sym (table-length cs (rising T));
         share-words = H .used;
         starts = s;
         triples = T .words;
@@ -146,14 +148,14 @@ module _ (len n : ℕ) (cs : List Code) (before : TableWords) (T : Triples (befo
         shares = H .shares;
       })
 
-  pub short : (after : TableWords) → (length (before .slots) < topOf cs - baseOf cs) ⊎ (room (length (before .shares)) < length (tableOf cs .shares))
+  pub short : {after : TableWords} → (length (before .slots) < topOf cs - baseOf cs) ⊎ (room (length (before .shares)) < length (tableOf cs .shares))
       → AllZero before after → GivesBuild (builtFrom len m (roomOf before) (found cs e)) (Refused LentTooShort) before after
-  short after d z = gives-none _ LentTooShort before after (from-short len m e (roomOf before) cs d) z
+  short {after} d z = gives-none _ LentTooShort before after (from-short len m e (roomOf before) cs d) z
 
 -- ---- an answer of `slot_table`, taken apart
 module _ (cs : List Code) (r : Tabled) (before after : SlotWords) (A : TabledAs cs r before after) where
-  pub tabled-filled : (b e k : ℕ) → r ≡ Filled b e k → HoldsAll cs b e k before after
-  tabled-filled b e k q = subst (λ (x : Tabled). TabledAs cs x before after) q A
+  pub tabled-filled : {b e k : ℕ} → r ≡ Filled b e k → HoldsAll cs b e k before after
+  tabled-filled q = subst (λ (x : Tabled). TabledAs cs x before after) q A
 
   pub tabled-short : r ≡ Short → (length (before .slots) < topOf cs - baseOf cs) ⊎ (room (length (before .shares)) < length (tableOf cs .shares))
   tabled-short q = subst (λ (x : Tabled). TabledAs cs x before after) q A

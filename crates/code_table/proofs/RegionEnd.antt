@@ -3,11 +3,11 @@
 --     end-most     never after the greatest last bucket
 --     end-holds    an array that lies in the file lies before it
 -- Assumes nothing.
-use Prim.Native.Nat.{ℕ, _+_, _*_, _≤_, _<_}
+use Prim.Native.Nat.{ℕ, _*_, _≤_, _<_}
 use native.Mathlib.Omega.{arith}
 use mathlib.Core.Path.{_≡_, refl, ap}
 use mathlib.Core.List.{List}
-use Rattle.dalvik.specs.CodeItem.{Code, start, stop}
+use Rattle.dalvik.specs.CodeItem.{Code, stop}
 use Rattle.class_data.specs.Stored.{lastBucket}
 use Rattle.code_table.specs.Slots.{topOf}
 use Rattle.code_table.specs.RegionEnd.{regionEnd}

@@ -39,7 +39,7 @@ word-of (c ∷ cs) zero (suc (suc zero)) h q = refl
 word-of (c ∷ cs) zero (suc (suc (suc j))) h q = absurd (omega arith)
 word-of (c ∷ cs) (suc i) j h q = rw three-more (word-of cs i j (omega arith) q)
 
-module _ (ts : List ℕ) (n : ℕ) (cs : List Code) (T : Triples ts n cs) (i : ℕ) (h : i < n) where
+module _ {ts : List ℕ} {n : ℕ} {cs : List Code} (T : Triples ts n cs) (i : ℕ) (h : i < n) where
   at-word : (j : ℕ) → j < 3 → getD ts (3 * i + j) 0 ≡ getD (triplesOf (getD cs i noCode ∷ [])) j 0
   at-word j q =
       let k : i < length cs = omega (arith, T .count) in
@@ -92,9 +92,11 @@ unfolding triplesOf
 seed [] = refl
 seed (c ∷ cs) = refl
 
-pub lowest-seed-word : (ts : List ℕ) (n : ℕ) (cs : List Code) → Triples ts n cs → lowest (getD ts 0 0) (drop 1 cs) ≡ baseOf cs
-lowest-seed-word ts n cs T =
-    ap (λ (l : List ℕ). lowest (getD l 0 0) (drop 1 cs)) (T .words) ∙ ap (λ (x : ℕ). lowest x (drop 1 cs)) (padded-at (length ts) (triplesOf cs) 0) ∙ seed cs
+pub lowest-seed-word : {ts : List ℕ} {n : ℕ} {cs : List Code} → Triples ts n cs → lowest (getD ts 0 0) (drop 1 cs) ≡ baseOf cs
+lowest-seed-word {ts} {n} {cs} T =
+    ap (λ (l : List ℕ). lowest (getD l 0 0) (drop 1 cs)) (T .words)
+    ∙ ap (λ (x : ℕ). lowest x (drop 1 cs)) (padded-at (length ts) (triplesOf cs) 0)
+    ∙ seed cs
 
 -- ---- words put after the others
 padded-more : (n : ℕ) (xs ys : List ℕ) (k : ℕ) → k ≡ length xs → k + length ys ≤ n → sets (padded n xs) k ys ≡ padded n (xs ++ ys)
@@ -117,18 +119,18 @@ module _ (v m : ℕ) (ws : List ℕ) where
   unfolding joined
   joined-free e = rw (eq-eqb v 0 e)
 
-  pub joined-single : 0 < v → v < 2147483648 → joined v m ws ≡ m ∷ (v - 1) ∷ 0 ∷ []
+  pub joined-single : 0 < v → v < shared → joined v m ws ≡ m ∷ (v - 1) ∷ 0 ∷ []
   unfolding joined
   joined-single z h =
       let n : v ≡ 0 → ⊥ = omega arith in
-      rw (ne-eqb v 0 n, lt-ltb v 2147483648 h)
+      rw (ne-eqb v 0 n, lt-ltb v shared h)
 
-  pub joined-share : 2147483648 ≤ v → joined v m ws ≡ getD ws (3 * (v - 2147483648)) 0 ∷ m ∷ (v - 2147483648 + 1) ∷ []
+  pub joined-share : shared ≤ v → joined v m ws ≡ getD ws (3 * (v - shared)) 0 ∷ m ∷ (v - shared + 1) ∷ []
   unfolding joined
   joined-share h =
       let n : v ≡ 0 → ⊥ = omega arith in
-      let e : 3 * (v - 2147483648) + 0 ≡ 3 * (v - 2147483648) = omega arith in
-      rw (ne-eqb v 0 n, le-ltb v 2147483648 h) (ap (λ (i : ℕ). getD ws i 0 ∷ m ∷ (v - 2147483648 + 1) ∷ []) e)
+      let e : 3 * (v - shared) + 0 ≡ 3 * (v - shared) = omega arith in
+      rw (ne-eqb v 0 n, le-ltb v shared h) (ap (λ (i : ℕ). getD ws i 0 ∷ m ∷ (v - shared + 1) ∷ []) e)
 
   joined-three : (v ≡ 0 → ⊥) → length (joined v m ws) ≡ 3
   unfolding joined
@@ -180,10 +182,10 @@ module _ {N W base : ℕ} {x : Triple} {c : Code} {t : Table} {lent : SlotWords}
       ∙ ap₂ (λ (x : List ℕ) (y : ℕ). stretch x (firstBucket c - base) (suc (lastBucket c) - firstBucket c) y) (H .slots) e
       ∙ stretch-padded N (t .slots) (firstBucket c - base) (suc (lastBucket c) - firstBucket c) v q
 
-  pub held-free : (ys : List ℕ) → ys ≡ stretch xs (f - base) (l - base + 1 - (f - base)) (m + 1) → getD xs (f - base) 0 ≡ 0
+  pub held-free : {ys : List ℕ} → ys ≡ stretch xs (f - base) (l - base + 1 - (f - base)) (m + 1) → getD xs (f - base) 0 ≡ 0
       → Holds N W (place base c t) (slotWords ys ws) k
   unfolding place
-  held-free ys e z =
+  held-free e z =
       let v = getD (t .slots) (firstBucket c - base) 0 in
       let q : v ≡ 0 = sym start-is ∙ z in
       let s : m + 1 ≡ joinedSlot v (c .method) (t .shares) = ap (λ (x : ℕ). x + 1) (w .method) ∙ sym (slot-free v (c .method) (t .shares) q) in
@@ -198,13 +200,13 @@ module _ {N W base : ℕ} {x : Triple} {c : Code} {t : Table} {lent : SlotWords}
     more : length (t .shares ++ joined (getD (t .slots) (firstBucket c - base) 0) (c .method) (t .shares)) ≡ k + 3
     more = length-append (t .shares) _ ∙ ap₂ (λ (x y : ℕ). x + y) (sym (H .used)) (joined-three _ (c .method) (t .shares) not-free)
 
-    pub held-share : (ys vs : List ℕ) → ys ≡ stretch xs (f - base) (l - base + 1 - (f - base)) (2147483648 + k / 3)
+    pub held-share : {ys vs : List ℕ} → ys ≡ stretch xs (f - base) (l - base + 1 - (f - base)) (shared + k / 3)
         → vs ≡ sets ws k (joined (getD xs (f - base) 0) m ws) → k + 3 ≤ room W → Holds N W (place base c t) (slotWords ys vs) (k + 3)
     unfolding place
-    held-share ys vs e g h =
+    held-share e g h =
         let v = getD (t .slots) (firstBucket c - base) 0 in
-        let s : 2147483648 + k / 3 ≡ joinedSlot v (c .method) (t .shares) =
-        ap (λ (x : ℕ). 2147483648 + x / 3) (H .used) ∙ sym (slot-share v (c .method) (t .shares) not-free) in
+        let s : shared + k / 3 ≡ joinedSlot v (c .method) (t .shares) =
+        ap (λ (x : ℕ). shared + x / 3) (H .used) ∙ sym (slot-share v (c .method) (t .shares) not-free) in
         let j : joined (getD xs (f - base) 0) m (padded W (t .shares)) ≡ joined v (c .method) (t .shares) =
         joined-padded W _ m (t .shares) ∙ ap₂ (λ (x y : ℕ). joined x y (t .shares)) start-is (w .method) in
         let r : k + length (joined v (c .method) (t .shares)) ≤ W = omega (arith, joined-three v (c .method) (t .shares) not-free) in
@@ -279,8 +281,9 @@ table-over cs i r h =
     let n = ap (λ (t : Table). length (t .shares)) e in
     omega (arith, grows (baseOf cs) (upTo cs i) (drop i cs))
 
-pub held-none : (N W : ℕ) (cs : List Code) (xs ws : List ℕ) → xs ≡ zeros N → ws ≡ zeros W → topOf cs - baseOf cs ≤ N → Holds N W (upTo cs 0) (slotWords xs ws) 0
-held-none N W cs xs ws p q h =
+pub held-none : (N W : ℕ) (cs : List Code) {xs ws : List ℕ} → xs ≡ zeros N → ws ≡ zeros W → topOf cs - baseOf cs ≤ N
+    → Holds N W (upTo cs 0) (slotWords xs ws) 0
+held-none N W cs p q h =
     record { slots = p ∙ sym (padded-zeros N (topOf cs - baseOf cs) h); shares = q ∙ sym (padded-none W); used = refl; fits = omega arith }
 
 -- ---- code i placed by its triple
@@ -291,22 +294,22 @@ module _ {ts : List ℕ} {n : ℕ} {cs : List Code} (T : Triples ts n cs) {base 
   pub placeable : (xs ws : List ℕ) (used : ℕ) → topOf cs - base ≤ length xs → used ≤ length ws
       → Placeable (slotWords xs ws) used base (threeWords (getD ts (3 * i) 0) (getD ts (3 * i + 1) 0) (getD ts (3 * i + 2) 0))
   placeable xs ws used e u =
-      let f = first-word ts n cs T i h in
-      let l = last-word ts n cs T i h in
-      let m = method-word ts n cs T i h in
+      let f = first-word T i h in
+      let l = last-word T i h in
+      let m = method-word T i h in
       let s = T .sound i h in
       let b = base-least cs i below in
       let t = top-greatest cs i below in
       record { above = omega arith; rises = omega arith; inside = omega arith; small = omega arith; fits = u }
 
-  pub turn : {N W used : ℕ} (r : Placed) (before after : SlotWords) → length (before .shares) ≡ W → Holds N W (upTo cs i) before used
+  pub turn : {N W used : ℕ} (r : Placed) {before : SlotWords} (after : SlotWords) → length (before .shares) ≡ W → Holds N W (upTo cs i) before used
       → PlacedIn base (threeWords (getD ts (3 * i) 0) (getD ts (3 * i + 1) 0) (getD ts (3 * i + 2) 0)) used r before after
       → After N W (upTo cs (i + 1)) r after
-  turn {N} {W} {used} r before after w H P =
+  turn {N} {W} r after w H P =
       let d = getD cs i noCode in
-      let f = first-word ts n cs T i h in
-      let l = last-word ts n cs T i h in
-      let m = method-word ts n cs T i h in
+      let f = first-word T i h in
+      let l = last-word T i h in
+      let m = method-word T i h in
       let k = table-slots cs (λ j q. T .sound j (omega (arith, T .count)) .rises) i (omega (arith, T .count)) in
       let b = base-least cs i below in
       let t = top-greatest cs i below in

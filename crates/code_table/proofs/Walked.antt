@@ -1,11 +1,11 @@
 -- Laws from the walk over the class data to the outcome of the build. Both test the file's size and the start words first, so a refusal
 -- of the walk is the build's, and codes found are sound: the walk refuses an empty array and one that is not inside.
 --     lost                          a refusal of the walk
---     gained, build-whole           codes found
+--     gained                        codes found
 --     sound-at                      what the walk lets pass
 --     taken-triples, gives-gained   what `codes` leaves, and the build makes of it
 -- Assumes nothing.
-use mathlib.Core.Path.{_≡_, sym, ap, subst, subst⁻¹, _∙_}
+use mathlib.Core.Path.{_≡_, sym, ap, subst⁻¹, _∙_}
 use mathlib.Core.List.{List, [], _∷_}
 use mathlib.Core.Bool.{Bool, true, false, cond, _&&_}
 use Prim.Native.Nat.{ℕ, zero, suc, _-_, _*_, _≤_, _<_}
@@ -14,7 +14,7 @@ use lib.Dec.{leb}
 use lib.ListN.{length, getD}
 use borrow.Author.Tests.{le-ltb, le-leb}
 use Rattle.words.specs.Padded.{padded}
-use Rattle.refusal.specs.Refusals.{refusalNumber, tooLarge}
+use Rattle.refusal.specs.Refusals.{refusalNumber, largestFile, tooLarge}
 use Rattle.refusal.specs.declared.Refusal.{Refusal}
 use Rattle.refusal.specs.declared.Refusal.the-variants.{FileTooLarge, LentTooShort}
 use Rattle.tinydex.specs.declared.DexHeader.{DexHeader}
@@ -30,7 +30,6 @@ use Rattle.code_table.specs.Build.{Room, Build, noBuild, builtFrom, buil
 use Rattle.code_table.specs.Answer.{TableWords, roomOf, GivesBuild}
 use Rattle.code_table.specs.Steps.{noCode, Sound, Triples, Finished}
 use Rattle.code_table.specs.declared.Built.{Built}
-use Rattle.code_table.proofs.Build.{from-whole}
 
 -- what a walk refuses, an outcome refuses with the same number
 abbrev Loses : Refusal → Walk → Build → Type 0
@@ -69,16 +68,10 @@ module _ (s : List ℕ) (h : DexHeader) (room : Room) (r : Refusal) where
       both r (tooLarge (length s)) _ _ _ _ (itself r FileTooLarge)
       (both r (leb (h .methods .size) (room .starts)) _ _ _ _ (fits-not (h .methods .size) (codesOf s h)) (itself r LentTooShort))
 
-pub gained : (s : List ℕ) (h : DexHeader) (room : Room) (w : Walk) → w ≡ codesOf s h → length s ≤ 16777216 → h .methods .size ≤ room .starts
+pub gained : (s : List ℕ) (h : DexHeader) (room : Room) (w : Walk) → w ≡ codesOf s h → length s ≤ largestFile → h .methods .size ≤ room .starts
     → buildOut s h room ≡ builtFrom (length s) (h .methods .size) room w
 unfolding buildOut
-gained s h room w e p q = rw (le-ltb 16777216 (length s) p, le-leb (h .methods .size) (room .starts) q, e)
-
--- lent words that suffice
-pub build-whole : (s : List ℕ) (h : DexHeader) (room : Room) (cs : List Code) (e : ℕ) → found cs e ≡ codesOf s h → length s ≤ 16777216
-    → h .methods .size ≤ room .starts → 3 * length cs ≤ room .triples → topOf cs - baseOf cs ≤ room .slots
-    → length (tableOf cs .shares) ≤ room .shares → length (tableOf cs .shares) ≤ mostShares → buildOut s h room ≡ wholeBuild (length s) (h .methods .size) cs
-build-whole s h room cs e w p q a b c d = gained s h room (found cs e) w p q ∙ from-whole (length s) (h .methods .size) e room cs a b c d
+gained s h room w e p q = rw (le-ltb largestFile (length s) p, le-leb (h .methods .size) (room .starts) q, e)
 
 -- what holds of each code holds of code i
 each-at : (P : Code → Type 0) (cs : List Code) → Each P cs → (i : ℕ) → i < length cs → P (getD cs i noCode)
@@ -86,19 +79,20 @@ each-at P [] E i h = absurd (omega arith)
 each-at P (c ∷ cs) E zero h = E .0
 each-at P (c ∷ cs) E (suc i) h = each-at P cs (E .1) i (omega arith)
 
-sound-code : (s : List ℕ) (m : ℕ) (c : Code) → length s ≤ 16777216 → CodeIn s m c → Sound c
+sound-code : (s : List ℕ) (m : ℕ) (c : Code) → length s ≤ largestFile → CodeIn s m c → Sound c
 sound-code s m c h C =
     let p = C .some in
     let q = C .inside in
     record { rises = omega arith; inside = omega arith; small = C .small }
 
 -- codes found are sound
-pub sound-at : (s : List ℕ) (h : DexHeader) (cs : List Code) (e : ℕ) → found cs e ≡ codesOf s h → length s ≤ 16777216
+pub sound-at : (s : List ℕ) (h : DexHeader) (cs : List Code) (e : ℕ) → found cs e ≡ codesOf s h → length s ≤ largestFile
     → (i : ℕ) → i < length cs → Sound (getD cs i noCode)
 sound-at s h cs e w p i q = sound-code s (h .methods .size) _ p (each-at _ cs (codes-sound s h cs e w) i q)
 
 -- what the outcome says of lent words, only their lengths decide
-same-room : {b : Build} {r : Built} (before mid after : TableWords) → roomOf mid ≡ roomOf before → GivesBuild b r mid after → GivesBuild b r before after
+same-room : {b : Build} {r : Built} (before mid after : TableWords) → roomOf mid ≡ roomOf before → GivesBuild b r mid after
+    → GivesBuild b r before after
 same-room {b} before mid after e G = record {
   number = G .number;
   from = G .from;
@@ -117,7 +111,7 @@ abbrev pub filled : TableWords → CodeWords
 filled w = codeWords (w .triples) (w .starts)
 
 -- `codes` found n codes: the lent words before the build, and after `codes`
-module _ (s : List ℕ) (h : DexHeader) (n : ℕ) (before mid : TableWords)
+module _ {s : List ℕ} {h : DexHeader} {n : ℕ} (before mid : TableWords)
     (K : Taken s h n (filled before) (filled mid)) (l : roomOf mid ≡ roomOf before) where
   pub taken-triples : Triples (mid .triples) n (K .codes)
   taken-triples = record {
@@ -127,7 +121,8 @@ module _ (s : List ℕ) (h : DexHeader) (n : ℕ) (before mid : TableWords)
     sound = λ i q. sound-at s h (K .codes) (K .next) (K .walk) (K .small) i (omega (arith, K .count));
   }
 
-  pub gives-gained : (r : Built) (after : TableWords) → Finished (length s) n r mid after → GivesBuild (buildOut s h (roomOf before)) r before after
+  pub gives-gained : (r : Built) (after : TableWords) → Finished (length s) n r mid after
+      → GivesBuild (buildOut s h (roomOf before)) r before after
   gives-gained r after F =
       let m = h .methods .size in
       let w : Walk = found (K .codes) (K .next) in

@@ -9,6 +9,7 @@ use mathlib.Core.Logic.{_⊎_}
 use lib.ListN.{length, getD}
 use Rattle.words.specs.Padded.{zeros, padded}
 use Rattle.dalvik.specs.CodeItem.{Code}
+use Rattle.class_data.specs.Walk.{mostMethods}
 use Rattle.class_data.specs.Walk.Walk.{found}
 use Rattle.class_data.specs.Stored.{firstBucket, lastBucket, triplesOf, startsOf}
 use Rattle.code_table.specs.Slots.{baseOf, topOf, Table, place, tableOf}
@@ -24,11 +25,15 @@ use Rattle.code_table.specs.declared.Tabled.the-variants.{Filled, Short}
 abbrev pub noCode : Code
 noCode = record { method = 0; off = 0; units = 0 }
 
+-- how many buckets of 16 bytes a file within the limit has
+abbrev pub mostBuckets : ℕ
+mostBuckets = 1048576
+
 -- a code that the walk lets pass: its array is not empty and lies in a file of 16 MiB
 pub record Sound (c : Code) : Type 0 where
   pub rises : firstBucket c ≤ lastBucket c
-  pub inside : lastBucket c < 1048576
-  pub small : c .method < 16777216
+  pub inside : lastBucket c < mostBuckets
+  pub small : c .method < mostMethods
 
 -- the words ts are the triples of the n codes cs, and zeros
 pub record Triples (ts : List ℕ) (n : ℕ) (cs : List Code) : Type 0 where
@@ -86,7 +91,7 @@ pub record Placeable (w : SlotWords) (used base : ℕ) (x : Triple) : Type 0 whe
   pub above : base ≤ x .first
   pub rises : x .first ≤ x .last
   pub inside : x .last - base < length (w .slots)
-  pub small : x .method < 16777216
+  pub small : x .method < mostMethods
   pub fits : used ≤ length (w .shares)
 
 -- what placing leaves of any table that the lent words held, and that has the code's slots

@@ -1,7 +1,7 @@
 // The code table's build (`parse` of insn_locator.rs): from file and record to start words, triples, slots, shares and the code region.
 ghost use mathlib.Core.Path.{_≡_};
 ghost use mathlib.Core.List.{List, [], _∷_};
-ghost use Prim.Native.Nat.{ℕ, _+_, _*_, _<_, _≤_};
+ghost use Prim.Native.Nat.{_+_, _*_, _<_, _≤_};
 ghost use lib.ListN.{length};
 ghost use lib.Seq.{sets};
 ghost use Rattle.dalvik.specs.CodeItem.{Code};
@@ -9,7 +9,8 @@ ghost use Rattle.code_table.specs.Slots.{baseOf, topOf, joined};
 ghost use Rattle.code_table.specs.RegionEnd.{regionEnd};
 ghost use Rattle.code_table.specs.Build.{buildOut};
 ghost use Rattle.code_table.specs.Answer.{tableWords, roomOf, GivesBuild};
-ghost use Rattle.code_table.specs.Steps.{Triples, Coded, room, threeWords, slotWords, Placeable, PlacedIn, Cleared, Spanned, AllPlaced, TabledAs, Finished};
+ghost use Rattle.code_table.specs.Steps.{mostBuckets, Triples, Coded, room, threeWords, slotWords, Placeable, PlacedIn};
+ghost use Rattle.code_table.specs.Steps.{Cleared, Spanned, AllPlaced, TabledAs, Finished};
 use refusal::Answer;
 use refusal::Refusal;
 use tinydex::DexHeader;
@@ -74,11 +75,14 @@ fn greatest(triples: &[u32], n: usize) -> u32
     r
 }
 
-// How many of n lent words of shares can be used: a share's number has 31 bits.
+// Three words for each share's number of 31 bits (`mostShares` of specs/Build.antt).
+const MOST_SHARES: usize = 6442450944;
+
+// How many of n lent words of shares can be used.
 fn share_room(n: usize) -> usize
     ensures { λ r. ⌜ r ≡ room n ⌝ }
 {
-    if n < 6442450944 { n } else { 6442450944 }
+    if n < MOST_SHARES { n } else { MOST_SHARES }
 }
 
 // Three words from a place on.
@@ -195,7 +199,7 @@ fn slot_table(triples: &[u32], n: usize, slots: &mut [u32], shares: &mut [u32]) 
 
 // Where the code region of a file of len bytes ends, by one more than the greatest last bucket.
 fn region_end(top: u32, len: usize) -> u32
-    requires { ⌜ top ≤ 1048576 ⌝ }
+    requires { ⌜ top ≤ mostBuckets ⌝ }
     ensures { λ r. ⌜ ((cs : List Code) → top ≡ topOf cs → r ≡ regionEnd len cs) ⌝ }
 {
     top * 16

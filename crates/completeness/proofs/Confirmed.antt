@@ -3,7 +3,7 @@
 -- Assumes nothing.
 use Prim.Native.Nat.{ℕ, _/_, _≤_, _<_}
 use native.Mathlib.Omega.{arith}
-use mathlib.Core.Path.{_≡_, refl, sym, _∙_}
+use mathlib.Core.Path.{_≡_, sym, _∙_}
 use mathlib.Core.Logic.{_⊎_, inl, inr, ⊎-elim}
 use mathlib.Core.Bool.{true, false, cond}
 use mathlib.Core.List.{List, List·Memᴰ}
@@ -11,6 +11,7 @@ use mathlib.Core.Option.{some}
 use lib.ListN.{length, getD, length-map}
 use borrow.Author.Tests.{le-leb}
 use Rattle.words.proofs.Shared.{case}
+use Rattle.refusal.specs.Outcomes.{success}
 use Rattle.dalvik.specs.CodeItem.{Code, start, stop}
 use Rattle.dalvik.specs.Instructions.{Kind}
 use Rattle.code_item_scan.specs.Scan.{Hit}
@@ -30,10 +31,13 @@ use Rattle.completeness.proofs.Entries.{noHit, off-at, Tells, an-entry,
 
 module _ {s : List ℕ} {mapoff classesOff classes methods : ℕ} {codes : List Code} (P : Supposed s mapoff classesOff classes methods codes) where
   -- a slot word that stands for the methods with the code of c lists them
-  pub lists-methods : (c : Code) (shares : List ℕ) (slot : ℕ) → listed shares slot ≡ some (arranged (sharing codes (c .off))) → Lists codes c shares slot
+  pub lists-methods : (c : Code) (shares : List ℕ) (slot : ℕ) → listed shares slot ≡ some (arranged (sharing codes (c .off)))
+      → Lists codes c shares slot
   unfolding listOut
   lists-methods c shares slot e room fits =
-      rw (e, le-leb (length (arranged (sharing codes (c .off)))) room (omega (arith, length-arranged (sharing codes (c .off)))))
+      let ms : List ℕ = arranged (sharing codes (c .off)) in
+      let all : listOut shares slot room ≡ success ms = rw (e, le-leb (length ms) room (omega (arith, length-arranged (sharing codes (c .off))))) in
+      all
 
   module _ (kind : Kind) (wanted : List ℕ) (i j k : ℕ) where
     abbrev T : Tables
@@ -80,7 +84,8 @@ module _ {s : List ℕ} {mapoff classesOff classes methods : ℕ} {codes : List 
             let a : v ≡ cond (lands s (start (r .0)) o) (slotOf T o) 0
             = sym (C .answer) ∙ answer-at P kind wanted i j k (r .0) (r .1) n o x (C .in-list) (C .entry) (r .2) in
             ⊎-elim
-            (λ (q : lands s (start (r .0)) o ≡ true). record { d = r .0; found = r .1; bucket = r .2; steps = lands-to s (start (r .0)) o q; its = rw q at a })
+            (λ (q : lands s (start (r .0)) o ≡ true). record
+            { d = r .0; found = r .1; bucket = r .2; steps = lands-to s (start (r .0)) o q; its = rw q at a })
             (λ (q : lands s (start (r .0)) o ≡ false). absurd (C .confirmed (rw q at a)))
             (case (lands s (start (r .0)) o))
 

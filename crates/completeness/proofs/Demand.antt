@@ -10,7 +10,7 @@ use lib.ListN.{length, length-map}
 use borrow.Author.Tests.{le-leb, le-ltb}
 use Rattle.words.proofs.Padded.{length-padded}
 use Rattle.refusal.specs.Refusals.{largestFile}
-use Rattle.refusal.specs.Outcomes.{Outcome, success}
+use Rattle.refusal.specs.Outcomes.{success}
 use Rattle.tinydex.specs.declared.DexHeader.{DexHeader}
 use Rattle.dalvik.specs.CodeItem.{Code}
 use Rattle.dalvik.specs.Instructions.{Kind}
@@ -22,13 +22,13 @@ use Rattle.code_table.specs.Build.{Build, mostShares, wholeBuild, buildOut}
 use Rattle.kinds.specs.Kinds.{kindNumber, kindOf}
 use Rattle.code_item_scan.specs.Scan.{Hit, offs, Scan, scanOut}
 use Rattle.insn_locator.specs.Locate.{Tables, locateAll, locateOut}
-use Rattle.slot_listing.specs.Listing.{listOut}
-use Rattle.completeness.specs.Completeness.{Supposed, Lists, Lies}
-use Rattle.completeness.proofs.Outcomes.{Lent, passedOn, builtOf, scannedOf, locatedOf, ranOf, entriesOf, HoldsTable, Suffices, Confirmed, Finds, OverOutcomes}
+use Rattle.completeness.specs.Completeness.{methodLimit, Supposed, Lists, Lies}
+use Rattle.completeness.proofs.Outcomes.{Lent, passedOn, builtOf, scannedOf, locatedOf, ranOf, entriesOf}
+use Rattle.completeness.proofs.Outcomes.{HoldsTable, Suffices, Confirmed, Finds, OverOutcomes}
 use Rattle.completeness.proofs.Buckets.{block-of-array}
 use Rattle.completeness.proofs.Slots.{some-units}
 use Rattle.completeness.proofs.Starts.{startsOf-length}
-use Rattle.completeness.proofs.Hits.{rising-once}
+use Rattle.completeness.proofs.Rises.{rising-once}
 use Rattle.completeness.proofs.Found.{codes-found}
 use Rattle.completeness.proofs.Few.{codes-few, shares-few}
 use Rattle.completeness.proofs.Walks.{tested, end-inside, base-end, in-buckets}
@@ -72,7 +72,7 @@ module _ (s : List ℕ) (h : DexHeader) (codes : List Code) (P : Supposed s (h .
 
   -- ---- each operation's outcome
   pub shares-fit : length (tableOf codes .shares) ≤ mostShares
-  shares-fit = omega (arith, shares-few codes, codes-few 16777216 codes (P .once) (λ c m. P .each c m .small))
+  shares-fit = omega (arith, shares-few codes, codes-few methodLimit codes (P .once) (λ c m. P .each c m .small))
 
   pub build-is : HoldsTable (h .methods .size) codes (L .build) → builtOf s h L ≡ B
   unfolding buildOut

@@ -62,7 +62,12 @@ pub pigeonhole : (n : ℕ) (ys : List ℕ) → Distinct ys → ((m : ℕ) → Li
 pigeonhole zero [] d f = omega arith
 pigeonhole zero (y ∷ ys) d f = absurd (omega (arith, f y (List·Memᴰ·head refl)))
 pigeonhole (suc n) ys d f =
-    omega (arith, one-less n ys d, pigeonhole n (without n ys) (distinct-without n ys d) (λ m k. let r = mem-without n ys k in omega (arith, f m (r .0), r .1)))
+    omega (
+      arith,
+      one-less n ys d,
+      pigeonhole n (without n ys) (distinct-without n ys d)
+          (λ m k. let r = mem-without n ys k in omega (arith, f m (r .0), r .1)),
+    )
 
 methods-length : (cs : List Code) → length (methodsOf cs) ≡ length cs
 methods-length [] = refl
@@ -87,7 +92,13 @@ unfolding place
 shares-few-from base t [] = omega arith
 shares-few-from base t (c ∷ cs) =
     let v : ℕ = getD (t .slots) (firstBucket c - base) 0 in
-    omega (arith, shares-few-from base (place base c t) cs, length-append (t .shares) (joined v (c .method) (t .shares)), joined-few v (c .method) (t .shares))
+    omega (
+      arith,
+      shares-few-from base (place base c t) cs,
+      length-append (t .shares) (joined v (c .method) (t .shares)),
+      joined-few v (c .method)
+          (t .shares),
+    )
 
 pub shares-few : (cs : List Code) → length (tableOf cs .shares) ≤ 3 * length cs
 unfolding tableOf

@@ -1,13 +1,13 @@
 -- The walk finds the codes that the published class data have: each number it reads is the published one, and no test of it refuses.
 -- Assumes nothing.
-use Prim.Native.Nat.{ℕ, _+_, _-_, _*_, _%_, _≤_, _<_}
+use Prim.Native.Nat.{ℕ, _+_, _*_, _%_, _≤_, _<_}
 use native.Mathlib.Omega.{arith}
 use mathlib.Core.Path.{_≡_, refl, ap}
 use mathlib.Core.List.{List, List·Memᴰ, List·Memᴰ·head, List·Memᴰ·tail, Memᴰ·append-left, Memᴰ·append-right}
 use mathlib.Core.Option.{none, some}
 use lib.ListN.{length}
 use borrow.Author.Tests.{lt-ltb, le-ltb, le-leb, eq-eqb, ne-eqb}
-use Rattle.dalvik.specs.Numbers.{Bytes, Uleb128, Uleb128s}
+use Rattle.dalvik.specs.Numbers.{Bytes, Uleb128s}
 use Rattle.dalvik.specs.MapList.{mapItemSize, classDataType, map-type, ClassDataEntry, NoClassDataEntry}
 use Rattle.dalvik.specs.MapList.ClassDataEntry.{this, later}
 use Rattle.dalvik.specs.CodeItem.{Code, insns-size}
@@ -15,9 +15,10 @@ use Rattle.dalvik.specs.ClassData.{EncodedMethods, ClassData, Successive, class
 use Rattle.dalvik.specs.ClassData.EncodedMethods.{without-code, with-code}
 use Rattle.dalvik.specs.ClassData.Defined.{no-data, some-data}
 use Rattle.dalvik.specs.ClassData.CodesOf.{by-map, without-entry, without-map}
-use Rattle.leb128.proofs.Published.{ends-behind, ends-inside, fast-published}
+use Rattle.leb128.proofs.Published.{ends-after, ends-inside, fast-published}
 use Rattle.tinydex.specs.declared.DexHeader.{DexHeader}
-use Rattle.class_data.specs.Walk.{Walk, word, twoAt, sizesAt, methodsAt, mostMethods, codeAt, methodsFrom, classDataAt}
+use Rattle.refusal.specs.Refusals.{largestFile}
+use Rattle.class_data.specs.Walk.{word, twoAt, sizesAt, methodsAt, mostMethods, codeAt, methodsFrom, classDataAt}
 use Rattle.class_data.specs.Walk.Walk.{found}
 use Rattle.class_data.proofs.Published.{on, numbers-skipped}
 use Rattle.class_data.specs.Codes.{successive, defined, entryFrom, mapEntry, codesOf}
@@ -28,7 +29,7 @@ low-bits v h = omega arith
 -- ---- field pairs: they are skipped, and are fewer than the file has bytes
 numbers-few : {s : List ℕ} {n i e : ℕ} → Uleb128s s n i e → i + n ≤ e
 numbers-few Uleb128s.no-more = omega arith
-numbers-few (Uleb128s.one-more u r) = omega (arith, numbers-few r, ends-behind (u .number))
+numbers-few (Uleb128s.one-more u r) = omega (arith, numbers-few r, ends-after (u .number))
 
 numbers-inside : {s : List ℕ} {n i e : ℕ} → Uleb128s s n i e → i ≤ length s → e ≤ length s
 numbers-inside Uleb128s.no-more le = le
@@ -37,7 +38,7 @@ numbers-inside (Uleb128s.one-more u r) le = numbers-inside r (ends-inside (u .nu
 -- ---- methods: what the walk tests of a code
 pub record Tested (s : List ℕ) (methods : ℕ) (c : Code) : Type 0 where
   pub below : c .method < methods
-  pub small : c .method < 16777216
+  pub small : c .method < mostMethods
   pub header : c .off + 16 ≤ length s
   pub some-units : 0 < c .units
   pub array : c .off + 16 + 2 * c .units ≤ length s
@@ -50,7 +51,8 @@ module _ (s : List ℕ) (B : Bytes s) (methods : ℕ) where
   unfolding methodsFrom
   methods-found EncodedMethods.no-more t = refl
   methods-found (without-code {m = m} {d = d} u h f o r) t =
-      rw (fast-published B u, on u, low-bits d (u .fits), lt-ltb (m + d) word h, fast-published B f, on f, fast-published B o, on o) (methods-found r t)
+      rw (fast-published B u, on u, low-bits d (u .fits), lt-ltb (m + d) word h, fast-published B f, on f, fast-published B o, on o)
+      (methods-found r t)
   methods-found (with-code {n = n} {m = m} {d = d} {c = c} {o = o} {cs = cs} u h f w z r) t =
       let k : Tested s methods (codeAt s (m + d) o) = t (codeAt s (m + d) o) (List·Memᴰ·head refl) in
       rw (
@@ -73,7 +75,7 @@ module _ (s : List ℕ) (B : Bytes s) (methods : ℕ) where
       )
 
   -- ---- class data items
-  module _ (small : length s ≤ 16777216) where
+  module _ (small : length s ≤ largestFile) where
     class-data-found : {i e : ℕ} {cs : List Code} → ClassData s i cs e → AllTested s methods cs → classDataAt s methods i ≡ found cs e
     unfolding classDataAt methodsAt sizesAt twoAt
     class-data-found {i} {e} {cs} D t =
@@ -112,7 +114,12 @@ module _ (s : List ℕ) (B : Bytes s) (methods : ℕ) where
     defined-found (some-data {i = i} {cs = cs} {ds = ds} h z D r) t =
         let o = defined-found r (λ x y. t x (Memᴰ·append-right cs y)) in (
           o .0,
-          rw (le-leb (i + 28) (length s) (omega arith), ne-eqb (class-data-off s i) 0 z, class-data-found D (λ x y. t x (Memᴰ·append-left ds y)), o .1),
+          rw (
+            le-leb (i + 28) (length s) (omega arith),
+            ne-eqb (class-data-off s i) 0 z,
+            class-data-found D (λ x y. t x (Memᴰ·append-left ds y)),
+            o .1,
+          ),
         )
 
 -- ---- the map
@@ -127,7 +134,7 @@ no-entry-found NoClassDataEntry.no-more = refl
 no-entry-found {s} (NoClassDataEntry.one-more {i = i} h q r) =
     rw (le-leb (i + mapItemSize) (length s) h, ne-eqb (map-type s i) classDataType q) (no-entry-found r)
 
-pub codes-found : {s : List ℕ} (h : DexHeader) {cs : List Code} → Bytes s → length s ≤ 16777216
+pub codes-found : {s : List ℕ} (h : DexHeader) {cs : List Code} → Bytes s → length s ≤ largestFile
     → CodesOf s (h .mapoff) (h .classes .off) (h .classes .size) cs → AllTested s (h .methods .size) cs
     → (e : ℕ) × (codesOf s h ≡ found cs e)
 unfolding codesOf mapEntry

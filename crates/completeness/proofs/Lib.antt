@@ -9,7 +9,7 @@ pub mod Slots
 pub mod Starts
 pub mod Widths
 pub mod Locates
-pub mod Hits
+pub mod Rises
 pub mod Found
 pub mod Few
 pub mod Walks
@@ -21,6 +21,8 @@ pub mod Words
 pub mod Room
 pub mod Tried
 pub mod Enough
+pub mod Promise
+pub mod WorkedFile
 pub mod Case
 pub mod SharedCase
-pub mod Edges
+pub mod Computed

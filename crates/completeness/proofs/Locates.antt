@@ -15,6 +15,7 @@ use borrow.Author.Tests.{ltb-true, lt-ltb, eq-eqb, ne-eqb}
 use Rattle.words.proofs.Shared.{case, and-left, and-right}
 use Rattle.start_words.specs.Starts.{startOf}
 use Rattle.start_words.proofs.Starts.{has-start}
+use Rattle.code_item_scan.proofs.Listed.{Above, no-more, one-more}
 use Rattle.insn_locator.specs.Walk.{lands}
 use Rattle.insn_locator.specs.Locate.{slotAt, firstOf, Tables, Answered, fromOf, answered, locateFrom}
 use Rattle.completeness.proofs.Tests.{eq-or-not, getD-zeros}
@@ -54,9 +55,13 @@ same-walk s starts last b m t K le =
     (eq-or-not (getD last m 0) 0)
 
 later : {s starts last : List ℕ} {b t : ℕ} → Kept s starts last b → b ≤ t → Kept s starts last t
-later {s} {starts} {last} {b} {t} K le = record { sized = K .sized; each = λ m. ⊎-elim (λ e. inl e) (λ w. inr (w .0, w .1, omega (arith, w .2))) (K .each m) }
+later {s} {starts} {last} {b} {t} K le = record {
+  sized = K .sized;
+  each = λ m. ⊎-elim (λ e. inl e) (λ w. inr (w .0, w .1, omega (arith, w .2))) (K .each m);
+}
 
-confirmed : {s starts last : List ℕ} {t : ℕ} (m : ℕ) → m < length starts → confirms s starts m t ≡ true → Kept s starts last t → Kept s starts (set last m t) t
+confirmed : {s starts last : List ℕ} {t : ℕ} (m : ℕ) → m < length starts → confirms s starts m t ≡ true → Kept s starts last t
+    → Kept s starts (set last m t) t
 confirmed {s} {starts} {last} {t} m h e K = record {
   sized = length-set last m t ∙ K .sized;
   each = λ i. ⊎-elim
@@ -78,14 +83,15 @@ pub record Next (s : List ℕ) (T : Tables) (last : List ℕ) (t v : ℕ) : Type
   pub is : Answer s (T .starts) (T .shares) t v (r .answer)
   pub kept : Kept s (T .starts) (r .last) t
 
-one-entry : (s : List ℕ) (T : Tables) (last : List ℕ) (b t v : ℕ) → Answerable (T .starts) (T .shares) v → Kept s (T .starts) last b → b ≤ t → Next s T last t v
-one-entry s T last b t v (vacant e) K le = record {
+one-entry : {s : List ℕ} (T : Tables) {last : List ℕ} {b : ℕ} (t v : ℕ) → Answerable (T .starts) (T .shares) v → Kept s (T .starts) last b → b ≤ t
+    → Next s T last t v
+one-entry T {last} t v (vacant e) K le = record {
   r = record { answer = 0; last = last };
   gives = rw (eq-eqb v 0 e);
   is = vacant e refl;
   kept = later K le;
 }
-one-entry s T last b t v (by f m e h) K le =
+one-entry {s} T {last} {b} t v (by f m e h) K le =
     ⊎-elim
     (λ (q : confirms s (T .starts) m t ≡ true). record {
       r = record { answer = v; last = set last m t };
@@ -101,11 +107,6 @@ one-entry s T last b t v (by f m e h) K le =
     })
     (case (confirms s (T .starts) m t))
 
--- rising, from b on
-pub data Above : ℕ → List ℕ → Type 0 where
-  no-more : {b : ℕ} → Above b []
-  one-more : {b t : ℕ} {ts : List ℕ} → b ≤ t → Above (suc t) ts → Above b (t ∷ ts)
-
 pub record Located (s : List ℕ) (T : Tables) (last ts : List ℕ) : Type 0 where
   pub answers : List ℕ
   pub gives : locateFrom s T last ts ≡ some answers
@@ -113,12 +114,12 @@ pub record Located (s : List ℕ) (T : Tables) (last ts : List ℕ) : Type 0 whe
   pub each : (k : ℕ) → k < length ts → Answer s (T .starts) (T .shares) (getD ts k 0) (slotAt (T .base) (T .slots) (getD ts k 0)) (getD answers k 0)
 
 pub located : (s : List ℕ) (T : Tables) → ((t : ℕ) → Answerable (T .starts) (T .shares) (slotAt (T .base) (T .slots) t))
-    → (ts last : List ℕ) (b c : ℕ) → Above c ts → b ≤ c → Kept s (T .starts) last b → Located s T last ts
+    → {ts last : List ℕ} {b c : ℕ} → Above c ts → b ≤ c → Kept s (T .starts) last b → Located s T last ts
 unfolding locateFrom
-located s T A [] last b c o le K = record { answers = []; gives = refl; sized = refl; each = λ k h. absurd (omega arith) }
-located s T A (t ∷ ts) last b c (one-more h o) le K =
-    let n : Next s T last t (slotAt (T .base) (T .slots) t) = one-entry s T last b t (slotAt (T .base) (T .slots) t) (A t) K (omega arith) in
-    let L : Located s T (n .r .last) ts = located s T A ts (n .r .last) t (suc t) o (omega arith) (n .kept) in
+located s T A no-more le K = record { answers = []; gives = refl; sized = refl; each = λ k h. absurd (omega arith) }
+located s T A {last = last} (one-more {t = t} {ts = ts} h o) le K =
+    let n : Next s T last t (slotAt (T .base) (T .slots) t) = one-entry T t (slotAt (T .base) (T .slots) t) (A t) K (omega arith) in
+    let L : Located s T (n .r .last) ts = located s T A o (omega arith) (n .kept) in
     record {
       answers = n .r .answer ∷ L .answers;
       gives = rw (n .gives, L .gives);

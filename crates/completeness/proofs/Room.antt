@@ -19,15 +19,15 @@ use Rattle.dalvik.specs.Instructions.{Kind}
 use Rattle.class_data.specs.Codes.{codesOf}
 use Rattle.code_table.specs.Slots.{baseOf, topOf, tableOf}
 use Rattle.code_table.specs.RegionEnd.{regionEnd}
-use Rattle.code_table.specs.Build.{Room, Build, mostShares, noBuild, wholeBuild, builtFrom, buildOut}
+use Rattle.code_table.specs.Build.{Build, mostShares, noBuild, wholeBuild, builtFrom, buildOut}
 use Rattle.code_item_scan.specs.Scan.{Hit, offs, Scan, noScan, scanOut}
 use Rattle.insn_locator.specs.Locate.{locateAll, answersFrom, locateOut}
 use Rattle.completeness.specs.Completeness.{Supposed}
-use Rattle.completeness.proofs.Outcomes.{Lent, builtOf, scannedOf, locatedOf, entriesOf, HoldsTable, Suffices}
+use Rattle.completeness.proofs.Outcomes.{Lent, builtOf, scannedOf, locatedOf, entriesOf, HoldsTable}
 use Rattle.completeness.proofs.Found.{codes-found}
 use Rattle.completeness.proofs.Walks.{tested, end-inside, base-end}
 use Rattle.completeness.proofs.Owners.{tablesFor}
-use Rattle.completeness.proofs.Demand.{kind-read, build-is, scan-is, passed-on, starts-length}
+use Rattle.completeness.proofs.Demand.{kind-read, passed-on, starts-length}
 
 -- a test with a refusal 4 on its other side
 passed : {A : Type 0} (number : A → ℕ) (b : Bool) (x y : A) → number y ≡ 4 → number (cond b x y) ≢ 4 → b ≡ true
@@ -66,10 +66,12 @@ module _ (s : List ℕ) (h : DexHeader) (codes : List Code) (P : Supposed s (h .
       let n₁ : cond (leb m (L .build .starts)) (builtFrom (length s) m (L .build) (codesOf s h)) (noBuild 4) .number ≢ 4 =
       rw (le-ltb largestFile (length s) (P .small)) at n in
       let a : leb m (L .build .starts) ≡ true = passed (λ (B : Build). B .number) (leb m (L .build .starts)) _ _ refl n₁ in
-      let n₂ : cond fits (wholeBuild (length s) m codes) (noBuild 4) .number ≢ 4 = rw (a, codes-found h (P .bytes) (P .small) (P .found) (tested P) .1) at n₁ in
+      let n₂ : cond fits (wholeBuild (length s) m codes) (noBuild 4) .number ≢ 4 =
+      rw (a, codes-found h (P .bytes) (P .small) (P .found) (tested P) .1) at n₁ in
       holds-table (passed (λ (B : Build). B .number) fits (wholeBuild (length s) m codes) (noBuild 4) refl n₂) (leb-true m (L .build .starts) a)
 
-  pub scan-holds : scannedOf s kind wanted L (wholeBuild (length s) m codes) .number ≢ 4 → (length hits ≤ L .hits .offs) × (length hits ≤ L .hits .marks)
+  pub scan-holds : scannedOf s kind wanted L (wholeBuild (length s) m codes) .number ≢ 4
+      → (length hits ≤ L .hits .offs) × (length hits ≤ L .hits .marks)
   unfolding scanOut
   scan-holds n =
       let p = leb (length hits) (L .hits .offs) in

@@ -1,5 +1,5 @@
 -- A slot word stands for a list of methods: a share's words name its earlier share, whose list they lengthen by one. Joining a method to a
--- slot word appends it to that list, but for the second, which comes first; words appended behind change no list.
+-- slot word appends it to that list, but for the second, which comes first; words appended after change no list.
 -- Assumes nothing.
 use Prim.Native.Nat.{ℕ, zero, suc, _+_, _-_, _*_, _/_, _≤_, _<_}
 use native.Mathlib.Omega.{arith}
@@ -14,6 +14,7 @@ use lib.Seq.{getD-append-add}
 use borrow.Author.Tests.{lt-ltb, le-ltb, le-leb, eq-eqb, ne-eqb}
 use Rattle.words.specs.Padded.{zeros, padded}
 use Rattle.words.proofs.Shared.{case}
+use Rattle.class_data.specs.Walk.{mostMethods}
 use Rattle.code_table.specs.Slots.{shared, shareAt, joined, joinedSlot}
 use Rattle.slot_listing.specs.Listing.{snocTo, chain, listed}
 use Rattle.insn_locator.specs.Locate.{firstOf}
@@ -37,12 +38,14 @@ shareAt-append ws x k i h le = List·getD-append ws x 0 (3 * k + i) (omega arith
 longer : (ws x : List ℕ) (k : ℕ) → 3 * k + 3 ≤ length ws → 3 * k + 3 ≤ length (ws ++ x)
 longer ws x k le = omega (arith, length-append ws x)
 
--- more words behind change no list
+-- more words after change no list
 chained-append : {ws : List ℕ} (x : List ℕ) {k : ℕ} {l : List ℕ} → Chained ws k l → Chained (ws ++ x) k l
 chained-append {ws} x (two {k} le a b e) =
-    two (longer ws x k le) (shareAt-append ws x k 0 (omega arith) le ∙ a) (shareAt-append ws x k 1 (omega arith) le ∙ b) (shareAt-append ws x k 2 (omega arith) le ∙ e)
+    two (longer ws x k le) (shareAt-append ws x k 0 (omega arith) le ∙ a) (shareAt-append ws x k 1 (omega arith) le ∙ b)
+    (shareAt-append ws x k 2 (omega arith) le ∙ e)
 chained-append {ws} x (more {k} le a m e lt c) =
-    more (longer ws x k le) (shareAt-append ws x k 0 (omega arith) le ∙ a) (shareAt-append ws x k 1 (omega arith) le ∙ m) (shareAt-append ws x k 2 (omega arith) le ∙ e)
+    more (longer ws x k le) (shareAt-append ws x k 0 (omega arith) le ∙ a) (shareAt-append ws x k 1 (omega arith) le ∙ m)
+    (shareAt-append ws x k 2 (omega arith) le ∙ e)
     lt (chained-append x c)
 
 pub stands-append : {ws : List ℕ} (x : List ℕ) {v : ℕ} {l : List ℕ} → Stands ws v l → Stands (ws ++ x) v l
@@ -109,7 +112,7 @@ arranged-snoc (a ∷ b ∷ ms) m = refl
 new-share : (ws x : List ℕ) (n i : ℕ) → length ws ≡ 3 * n → shareAt (ws ++ x) n i ≡ getD x i 0
 new-share ws x n i e = ap (λ (z : ℕ). getD (ws ++ x) (z + i) 0) (sym e) ∙ getD-append-add ws x i 0
 
-pub join : {ws : List ℕ} {v : ℕ} {l : List ℕ} (m n : ℕ) → Stands ws v l → m < 16777216 → length ws ≡ 3 * n
+pub join : {ws : List ℕ} {v : ℕ} {l : List ℕ} (m n : ℕ) → Stands ws v l → m < mostMethods → length ws ≡ 3 * n
     → Stands (ws ++ joined v m ws) (joinedSlot v m ws) (adds l m)
 unfolding joined joinedSlot
 join {ws} {v} m n (free e) small whole = rw (eq-eqb v 0 e) (single {m = m} refl (omega arith))

@@ -11,7 +11,7 @@ use lib.ListN.{length, getD, replicate, length-replicate}
 use borrow.Author.Tests.{eq-eqb, ne-eqb}
 use Rattle.words.specs.Padded.{stretch}
 use Rattle.words.proofs.Padded.{length-stretch}
-use Rattle.dalvik.specs.CodeItem.{Code, start}
+use Rattle.dalvik.specs.CodeItem.{Code}
 use Rattle.class_data.specs.Stored.{firstBucket, lastBucket}
 use Rattle.code_table.specs.Slots.{baseOf, topOf, Table, joined, joinedSlot, place, tableFrom, tableOf}
 use Rattle.completeness.specs.Completeness.{ArrayOf, Supposed, sharing, arranged}
@@ -52,7 +52,8 @@ module _ {s : List ℕ} {mapoff classesOff classes methods : ℕ} {codes : List 
     n : ℕ
     whole : length (t .shares) ≡ 3 * n
     roomy : length (t .slots) ≡ topOf codes - baseOf codes
-    held : (d : Code) → List·Memᴰ d codes → (b : ℕ) → InBuckets d b → Stands (t .shares) (wordAt (baseOf codes) t b) (arranged (sharing done (d .off)))
+    held : (d : Code) → List·Memᴰ d codes → (b : ℕ) → InBuckets d b
+        → Stands (t .shares) (wordAt (baseOf codes) t b) (arranged (sharing done (d .off)))
     vacant : (b : ℕ) → baseOf codes ≤ b → ((d : Code) → List·Memᴰ d codes → InBuckets d b → ⊥) → wordAt (baseOf codes) t b ≡ 0
 
   at-first : Good [] (record { slots = replicate (topOf codes - baseOf codes) 0; shares = [] })
@@ -128,7 +129,8 @@ module _ {s : List ℕ} {mapoff classesOff classes methods : ℕ} {codes : List 
       without-c d f = rw (sharing-append done (c ∷ []) (d .off), ne-eqb (c .off) (d .off) f) (append-nil (sharing done (d .off)))
 
       mine : (d : Code) → List·Memᴰ d codes → (b : ℕ) → InBuckets d b → c .off ≡ d .off
-          → Stands (place (baseOf codes) c t .shares) (wordAt (baseOf codes) (place (baseOf codes) c t) b) (arranged (sharing (done ++ (c ∷ [])) (d .off)))
+          → Stands (place (baseOf codes) c t .shares) (wordAt (baseOf codes) (place (baseOf codes) c t) b)
+          (arranged (sharing (done ++ (c ∷ [])) (d .off)))
       mine d k b i e =
           let u : c .units ≡ d .units = one-offset c d (P .apart c d m k) e in
           let j : InBuckets c b = record { from-first = omega (arith, i .from-first); to-last = omega (arith, i .to-last) } in
@@ -136,12 +138,18 @@ module _ {s : List ℕ} {mapoff classesOff classes methods : ℕ} {codes : List 
           (join (c .method) (g .n) (g .held c m (firstBucket c) (first-bucket c m)) (P .each c m .small) (g .whole))
 
       other : (d : Code) → List·Memᴰ d codes → (b : ℕ) → InBuckets d b → (c .off ≡ d .off → ⊥)
-          → Stands (place (baseOf codes) c t .shares) (wordAt (baseOf codes) (place (baseOf codes) c t) b) (arranged (sharing (done ++ (c ∷ [])) (d .off)))
+          → Stands (place (baseOf codes) c t .shares) (wordAt (baseOf codes) (place (baseOf codes) c t) b)
+          (arranged (sharing (done ++ (c ∷ [])) (d .off)))
       other d k b i f =
-          rw (outside c m t (g .roomy) b (omega (arith, base-le k, i .from-first)) (λ j. f (one-item c d b (P .apart c d m k) j i)), place-shares (baseOf codes) c t, without-c d f)
+          rw (
+            outside c m t (g .roomy) b (omega (arith, base-le k, i .from-first)) (λ j. f (one-item c d b (P .apart c d m k) j i)),
+            place-shares (baseOf codes) c t,
+            without-c d f,
+          )
           (stands-append (joined (seen (baseOf codes) c t) (c .method) (t .shares)) (g .held d k b i))
 
-  all-placed : (done cs : List Code) (t : Table) → ((c : Code) → List·Memᴰ c cs → List·Memᴰ c codes) → Good done t → Good (done ++ cs) (tableFrom (baseOf codes) t cs)
+  all-placed : (done cs : List Code) (t : Table) → ((c : Code) → List·Memᴰ c cs → List·Memᴰ c codes) → Good done t
+      → Good (done ++ cs) (tableFrom (baseOf codes) t cs)
   all-placed done [] t f g = rw append-nil g
   all-placed done (c ∷ cs) t f g =
       rw (← append-assoc done (c ∷ []) cs)

@@ -2,11 +2,11 @@
 -- Assumes nothing.
 use Prim.Native.Nat.{ℕ, _<_}
 use native.Mathlib.Omega.{arith}
-use mathlib.Core.Path.{_≡_, refl, sym, _∙_}
+use mathlib.Core.Path.{_≡_, refl, _∙_}
 use mathlib.Core.List.{List, [], _∷_, List·Memᴰ, List·Memᴰ·head, List·Memᴰ·tail}
-use lib.ListN.{length, getD}
+use lib.ListN.{length}
 use Rattle.start_words.specs.Starts.{startCount, startOf, withStart, noStarts}
-use Rattle.start_words.proofs.Starts.{start-is, length-with, start-same, start-other, count-none}
+use Rattle.start_words.proofs.Starts.{length-with, start-same, start-other, count-none}
 use Rattle.dalvik.specs.CodeItem.{Code, start}
 use Rattle.class_data.specs.Stored.{startsFrom, startsOf}
 use Rattle.completeness.specs.Completeness.{Distinct, methodsOf}
@@ -18,7 +18,8 @@ starts-length ws (c ∷ cs) = starts-length (withStart ws (c .method) (start c))
 starts-other : (ws : List ℕ) (cs : List Code) (m : ℕ) → (List·Memᴰ m (methodsOf cs) → ⊥) → startOf (startsFrom ws cs) m ≡ startOf ws m
 starts-other ws [] m f = refl
 starts-other ws (c ∷ cs) m f =
-    starts-other (withStart ws (c .method) (start c)) cs m (λ k. f (List·Memᴰ·tail k)) ∙ start-other ws (c .method) (start c) m (λ e. f (List·Memᴰ·head e))
+    starts-other (withStart ws (c .method) (start c)) cs m (λ k. f (List·Memᴰ·tail k)) ∙ start-other ws (c .method) (start c) m
+    (λ e. f (List·Memᴰ·head e))
 
 starts-mem : {c : Code} {cs : List Code} → List·Memᴰ c cs → Distinct (methodsOf cs) → (ws : List ℕ) → c .method < startCount ws
     → startOf (startsFrom ws cs) (c .method) ≡ start c

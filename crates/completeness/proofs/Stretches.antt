@@ -14,9 +14,9 @@ module _ (xs : List ℕ) (a k v : ℕ) (fits : a + k ≤ length xs) where
   front = length-take-le a xs (omega arith)
 
   -- what stands from a on
-  behind : (i : ℕ) → a ≤ i → getD (stretch xs a k v) i 0 ≡ getD (replicate k v ++ drop k (drop a xs)) (i - a) 0
+  after : (i : ℕ) → a ≤ i → getD (stretch xs a k v) i 0 ≡ getD (replicate k v ++ drop k (drop a xs)) (i - a) 0
   unfolding stretch
-  behind i h =
+  after i h =
       let e : i ≡ length (take a xs) + (i - a) = omega (arith, front) in
       ap (λ (z : ℕ). getD (take a xs ++ (replicate k v ++ drop k (drop a xs))) z 0) e
       ∙ getD-append-add (take a xs) (replicate k v ++ drop k (drop a xs)) (i - a) 0
@@ -27,13 +27,13 @@ module _ (xs : List ℕ) (a k v : ℕ) (fits : a + k ≤ length xs) where
 
   pub stretch-in : (i : ℕ) → a ≤ i → i < a + k → getD (stretch xs a k v) i 0 ≡ v
   stretch-in i h l =
-      behind i h ∙ List·getD-append (replicate k v) (drop k (drop a xs)) 0 (i - a) (omega (arith, length-replicate k v))
+      after i h ∙ List·getD-append (replicate k v) (drop k (drop a xs)) 0 (i - a) (omega (arith, length-replicate k v))
       ∙ getD-replicate k (i - a) v 0 (omega arith)
 
   pub stretch-above : (i : ℕ) → a + k ≤ i → getD (stretch xs a k v) i 0 ≡ getD xs i 0
   stretch-above i h =
       let e : i - a ≡ length (replicate k v) + (i - a - k) = omega (arith, length-replicate k v) in
       let f : a + (k + (i - a - k)) ≡ i = omega arith in
-      behind i (omega arith) ∙ ap (λ (z : ℕ). getD (replicate k v ++ drop k (drop a xs)) z 0) e
+      after i (omega arith) ∙ ap (λ (z : ℕ). getD (replicate k v ++ drop k (drop a xs)) z 0) e
       ∙ getD-append-add (replicate k v) (drop k (drop a xs)) (i - a - k) 0 ∙ getD-drop k (drop a xs) (i - a - k) 0
       ∙ getD-drop a xs (k + (i - a - k)) 0 ∙ ap (λ (z : ℕ). getD xs z 0) f

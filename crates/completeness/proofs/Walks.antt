@@ -58,7 +58,8 @@ module _ {s : List ℕ} {mapoff classesOff classes methods : ℕ} {codes : List 
 
     module _ (p n : ℕ) (I : InstructionOf s d p n) where
       pub passes : Passed s (start d) (P .each d m .array .rest) p n
-      passes = lands-on-each (P .bytes) (P .each d m .array .instructions) (P .each d m .array .payloads) rest-inside (I .reached) (I .there) (I .fits)
+      passes =
+          lands-on-each (P .bytes) (P .each d m .array .instructions) (P .each d m .array .payloads) rest-inside (I .reached) (I .there) (I .fits)
 
       pub in-buckets : InBuckets d (p / 16)
       in-buckets = record {

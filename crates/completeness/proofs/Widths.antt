@@ -1,7 +1,7 @@
 -- The scan looks for what an instruction of the kind names: its ranges are the published opcodes, its width that of the published index,
 -- and the published length of such an instruction holds the index.
 -- Assumes nothing.
-use Prim.Native.Nat.{ℕ, _+_, _*_, _≤_, _<_, _%_}
+use Prim.Native.Nat.{ℕ, _+_, _*_, _≤_, _<_}
 use native.Mathlib.Omega.{arith}
 use mathlib.Core.Path.{_≡_, refl}
 use mathlib.Core.Logic.{⊎-elim}
@@ -21,7 +21,7 @@ use Rattle.dalvik.specs.Instructions.MethodOpcode.{invoke, invoke-range, invoke
 use Rattle.dalvik.specs.Instructions.Names.{const-string, const-string-jumbo, type-index, field-index, method-index}
 use Rattle.opcodes.specs.Length.{Range, only, upTo, within}
 use Rattle.kinds.specs.Width.{typeOpcodes, fieldOpcodes, methodOpcodes, widthOf}
-use Rattle.code_item_scan.specs.Scan.{indexAt, isTried}
+use Rattle.code_item_scan.specs.Scan.{indexAt}
 use Rattle.completeness.proofs.Tests.{no-test, lt-or-le}
 
 -- ---- ranges
@@ -34,7 +34,8 @@ within-true op [] e = absurd (no-test e)
 within-true op (r ∷ rs) e =
     ⊎-elim
     (λ (h : (leb (r .from) op && leb op (r .to)) ≡ true).
-    this (leb-true (r .from) op (and-left (leb (r .from) op) (leb op (r .to)) h)) (leb-true op (r .to) (and-right (leb (r .from) op) (leb op (r .to)) h)))
+    this (leb-true (r .from) op (and-left (leb (r .from) op) (leb op (r .to)) h))
+    (leb-true op (r .to) (and-right (leb (r .from) op) (leb op (r .to)) h)))
     (λ (h : (leb (r .from) op && leb op (r .to)) ≡ false). other (within-true op rs (rw h at e)))
     (case (leb (r .from) op && leb op (r .to)))
 
@@ -142,11 +143,3 @@ width-names s fields p h =
 width-names s methods p h =
     let e : within (byte s p) methodOpcodes ≡ true = two (within (byte s p) methodOpcodes) h in
     method-index (in-methods (within-true (byte s p) methodOpcodes e)) (rw e)
-
--- every kind is tried at even distances from the region's first byte
-pub tried-even : (kind : Kind) (d : ℕ) → d % 2 ≡ 0 → isTried kind d ≡ true
-unfolding isTried
-tried-even strings d h = refl
-tried-even types d h = eq-eqb (d % 2) 0 h
-tried-even fields d h = eq-eqb (d % 2) 0 h
-tried-even methods d h = eq-eqb (d % 2) 0 h

@@ -2,7 +2,6 @@
 -- are never an entry.
 -- Assumes nothing.
 use Prim.Native.Nat.{ℕ, zero, suc, _<_}
-use native.Mathlib.Omega.{arith}
 use mathlib.Core.Path.{_≡_, refl, sym, ap, _∙_}
 use mathlib.Core.Logic.{_≢_}
 use mathlib.Core.List.{List, [], _∷_, List·Memᴰ}
@@ -10,7 +9,7 @@ use lib.ListN.{length, getD}
 use Rattle.dalvik.specs.CodeItem.{Code}
 use Rattle.dalvik.specs.Instructions.{Kind}
 use Rattle.code_item_scan.specs.Scan.{Hit, offs, marks}
-use Rattle.completeness.specs.Completeness.{FindWords, entryAt, NamesWanted, Shows, Lies, Delivers}
+use Rattle.completeness.specs.Completeness.{FindWords, entryAt, Lists, NamesWanted, Shows, Lies, Delivers}
 use Rattle.completeness.proofs.Outcomes.{Ran, Rising, Confirmed, Shown, Finds}
 
 abbrev noHit : Hit
@@ -45,6 +44,10 @@ module _ {s : List ℕ} {codes : List Code} {kind : Kind} {wanted : List ℕ} {R
   abbrev hits : List Hit
   hits = R .scan .hits
 
+  same-lists : (c : Code) {shares shares′ : List ℕ} {slot slot′ : ℕ} → shares′ ≡ shares → slot′ ≡ slot
+      → Lists codes c shares slot → Lists codes c shares′ slot′
+  same-lists c p t l = rw (p, t) l
+
   shows : (c : Code) → List·Memᴰ c codes → (off index : ℕ) → NamesWanted s c kind wanted off index → Shows codes c (length hits) w off index
   shows c m off index N =
       let x : Shown codes c R off index = F .complete c m off index N in
@@ -55,7 +58,7 @@ module _ {s : List ℕ} {codes : List Code} {kind : Kind} {wanted : List ℕ} {R
         offset = H .offs (x .k) ∙ (off-at hits (x .k) ∙ ap (λ (z : Hit). z .off) (E .entry));
         mark = H .marks (x .k) ∙ (mark-at hits (x .k) ∙ ap (λ (z : Hit). z .mark) (E .entry));
         confirmed = λ z. E .confirmed (sym (E .answer) ∙ (sym (H .answers (x .k)) ∙ z));
-        lists = rw (H .shares, H .answers (x .k), E .answer) (x .lists);
+        lists = same-lists c (H .shares) (H .answers (x .k) ∙ E .answer) (x .lists);
       }
 
   rises : (i j : ℕ) → i < j → j < length hits → entryAt w i .off < entryAt w j .off

@@ -22,6 +22,13 @@ use Rattle.slot_listing.specs.Listing.{listOut}
 
 -- ==== Supposed: from the public documents (crate dalvik) and numbers alone. Nothing of the program stands in this part
 
+-- the demand's two limits: its own numbers, so that no limit of the program's narrows what is supposed
+abbrev pub mostBytes : ℕ
+mostBytes = 16777216
+
+abbrev pub methodLimit : ℕ
+methodLimit = 16777216
+
 -- no number stands in the list twice
 unfoldable pub Distinct : List ℕ → Type 0
 Distinct [] = Unit {0}
@@ -56,7 +63,7 @@ pub record ArrayOf (s : List ℕ) (c : Code) : Type 0 where
 -- 16-byte blocks lie inside". The array's blocks and what stands before them cover the item, so the blocks are enough
 pub record PublishedCode (s : List ℕ) (methods : ℕ) (c : Code) : Type 0 where
   pub below : c .method < methods
-  pub small : c .method < 16777216
+  pub small : c .method < methodLimit
   pub aligned : c .off % 4 ≡ 0
   pub blocks-inside : (b : ℕ) → BlockOf c b → (b + 1) * 16 ≤ length s
   pub array : ArrayOf s c
@@ -66,7 +73,7 @@ pub record PublishedCode (s : List ℕ) (methods : ℕ) (c : Code) : Type 0 wher
 pub record Supposed (s : List ℕ) (mapoff classesOff classes methods : ℕ) (codes : List Code) : Type 0 where
   pub bytes : Bytes s
   -- "a file of at most 16 MiB"
-  pub small : length s ≤ 16777216
+  pub small : length s ≤ mostBytes
   -- "map, class definitions, class data .. lie inside as published": these are the methods with code, in the order found
   pub found : CodesOf s mapoff classesOff classes codes
   -- "no method has code twice"

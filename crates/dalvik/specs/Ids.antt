@@ -1,7 +1,7 @@
--- The id items and the string data: "Dalvik Executable format", "string_id_item", "string_data_item", "type_id_item",
--- "field_id_item" and "method_id_item". A table of ids begins at an offset that the header gives.
+-- The id items and the string data: "Dalvik Executable format", "string_id_item", "string_data_item", "type_id_item"
+-- and "method_id_item". A table of ids begins at an offset that the header gives.
 -- Assumes nothing.
-use Prim.Native.Nat.{ℕ, suc, _+_, _*_, _<_}
+use Prim.Native.Nat.{ℕ, _+_, _*_, _<_}
 use mathlib.Core.Path.{_≡_}
 use mathlib.Core.Logic.{_≢_}
 use mathlib.Core.List.{List}
@@ -26,28 +26,12 @@ typeIdSize = 4
 abbrev pub type-descriptor-idx : List ℕ → ℕ → ℕ → ℕ
 type-descriptor-idx s table i = le32 s (item table typeIdSize i)
 
--- field_id_item: 8 bytes
-abbrev pub fieldIdSize : ℕ
-fieldIdSize = 8
-
-abbrev pub field-class-idx : List ℕ → ℕ → ℕ → ℕ
-field-class-idx s table i = le16 s (item table fieldIdSize i)
-
-abbrev pub field-type-idx : List ℕ → ℕ → ℕ → ℕ
-field-type-idx s table i = le16 s (item table fieldIdSize i + 2)
-
-abbrev pub field-name-idx : List ℕ → ℕ → ℕ → ℕ
-field-name-idx s table i = le32 s (item table fieldIdSize i + 4)
-
 -- method_id_item: 8 bytes
 abbrev pub methodIdSize : ℕ
 methodIdSize = 8
 
 abbrev pub method-class-idx : List ℕ → ℕ → ℕ → ℕ
 method-class-idx s table i = le16 s (item table methodIdSize i)
-
-abbrev pub method-proto-idx : List ℕ → ℕ → ℕ → ℕ
-method-proto-idx s table i = le16 s (item table methodIdSize i + 2)
 
 abbrev pub method-name-idx : List ℕ → ℕ → ℕ → ℕ
 method-name-idx s table i = le32 s (item table methodIdSize i + 4)

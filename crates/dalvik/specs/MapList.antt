@@ -1,7 +1,7 @@
 -- The map: "Dalvik Executable format", "map_list", "map_item" and "Type codes". Four bytes give the number of items, and the
 -- items follow, of 12 bytes each: type (2 bytes), unused (2), size (4), offset (4).
 -- Assumes nothing.
-use Prim.Native.Nat.{ℕ, zero, suc, _+_, _≤_}
+use Prim.Native.Nat.{ℕ, suc, _+_, _≤_}
 use mathlib.Core.Path.{_≡_}
 use mathlib.Core.Logic.{_≢_}
 use mathlib.Core.List.{List}

@@ -1,7 +1,7 @@
 -- Numbers in a file: "Dalvik Executable format", "Bitfield, string and constant definitions" (little endian) and "LEB128".
 -- A file is the list of its bytes.
 -- Assumes nothing.
-use Prim.Native.Nat.{ℕ, zero, suc, _+_, _-_, _*_, _<_, _≤_, _^_}
+use Prim.Native.Nat.{ℕ, suc, _+_, _-_, _*_, _<_, _≤_, _^_}
 use mathlib.Core.List.{List}
 use lib.ListN.{length, getD}
 

@@ -6,7 +6,7 @@ use mathlib.Core.Path.{_≡_, refl, sym, ap, _∙_}
 use mathlib.Core.Logic.{⊎-elim}
 use mathlib.Core.Bool.{true, false, _&&_}
 use mathlib.Core.List.{List, []}
-use lib.ListN.{length, take}
+use lib.ListN.{length}
 use lib.Dec.{leb, eqb}
 use borrow.Author.Tests.{eq-eqb, ne-eqb, eqb-true}
 use Rattle.words.specs.Padded.{zeros, padded}
@@ -17,6 +17,8 @@ use Rattle.refusal.specs.Refusals.{tooLarge}
 use Rattle.refusal.specs.declared.Refusal.{Refusal}
 use Rattle.refusal.specs.declared.Answer.{Answer}
 use Rattle.refusal.specs.declared.Answer.the-variants as a
+use Rattle.start_words.specs.Starts.{startCount, firstStarts}
+use Rattle.start_words.proofs.Starts.{first-padded}
 use Rattle.tinydex.specs.declared.DexHeader.{DexHeader}
 use Rattle.class_data.specs.Walk.{Walk}
 use Rattle.class_data.specs.Walk.Walk.{refused, found as codes-found}
@@ -37,7 +39,6 @@ use Rattle.findrefs.specs.Gives.{GivesFind}
 use Rattle.findrefs.specs.Steps.{four, Cleared, searchWords, GivesSearch, FoundIn}
 use Rattle.findrefs.specs.declared.Found.{Found}
 use Rattle.findrefs.specs.declared.Found.the-variants as r
-use Rattle.findrefs.proofs.Searched.{take-padded}
 
 -- ---- the search over a build
 module _ (o : Search) (g : Region) (before after : FindWords) where
@@ -85,7 +86,7 @@ module _ (o : Search) (g : Region) (before after : FindWords) where
 
 -- ---- a build that succeeds has a start word for each method
 abbrev StartEach : ℕ → Build → Type 0
-StartEach m B = B .number ≡ 0 → length (B .starts) ≡ m
+StartEach m B = B .number ≡ 0 → startCount (B .starts) ≡ m
 
 start-each : (len m : ℕ) (room : Room) (x : Walk) → StartEach m (builtFrom len m room x)
 start-each len m room (refused r) = λ e. absurd (some-number r e)
@@ -99,7 +100,8 @@ pub built-starts : (s : List ℕ) (h : DexHeader) (room : Room) → StartEach (h
 unfolding buildOut
 built-starts s h room =
     cond-elim (StartEach (h .methods .size)) (tooLarge (length s)) (noBuild 1) _ (λ _ e. absurd (omega arith))
-    (λ _. cond-elim (StartEach (h .methods .size)) (leb (h .methods .size) (room .starts)) (builtFrom (length s) (h .methods .size) room (codesOf s h)) (noBuild 4)
+    (λ _. cond-elim (StartEach (h .methods .size)) (leb (h .methods .size) (room .starts))
+    (builtFrom (length s) (h .methods .size) room (codesOf s h)) (noBuild 4)
     (λ _. start-each (length s) (h .methods .size) room (codesOf s h)) (λ _ e. absurd (omega arith)))
 
 -- ---- what is cleared is as long as before
@@ -162,13 +164,14 @@ module _ (s : List ℕ) (h : DexHeader) (kind : ℕ) (wanted : List ℕ) (before
     abbrev S : Search
     S = searchOf s kind wanted L buildOf
 
-    passed-is : take (h .methods .size) (t .starts) ≡ buildOf .starts
+    passed-is : firstStarts (h .methods .size) (t .starts) ≡ buildOf .starts
     passed-is =
-        ap (take (h .methods .size)) (B .starts)
-        ∙ take-padded (length (before .table .starts)) (h .methods .size) (buildOf .starts)
-        (sym (built-starts s h (roomOf (before .table)) (sym (B .number))))
+        ap (firstStarts (h .methods .size)) (B .starts)
+        ∙ first-padded (h .methods .size) (buildOf .starts) (length (before .table .starts))
+        (built-starts s h (roomOf (before .table)) (sym (B .number)))
 
-    searched-is : searchOut s (asked kind wanted (g .start) (g .end)) (tables (g .start / 16) (t .slots) (take (h .methods .size) (t .starts)) (t .shares))
+    searched-is : searchOut s (asked kind wanted (g .start) (g .end))
+        (tables (g .start / 16) (t .slots) (firstStarts (h .methods .size) (t .starts)) (t .shares))
         (L .hits) (L .further) (L .answers) ≡ S
     searched-is = rw (B .from, B .to, B .slots, passed-is, B .shares)
 
@@ -212,7 +215,8 @@ module _ (s : List ℕ) (h : DexHeader) (kind : ℕ) (wanted : List ℕ) (before
 
     pub find-built : (r : Found) (after : FindWords) → SameRoom t (before .table)
         → FoundIn (searchOut s (asked kind wanted (g .start) (g .end))
-        (tables (g .start / 16) (t .slots) (take (h .methods .size) (t .starts)) (t .shares)) (hitRoomOf (before .hits)) (L .further) (L .answers))
+        (tables (g .start / 16) (t .slots) (firstStarts (h .methods .size) (t .starts)) (t .shares))
+        (hitRoomOf (before .hits)) (L .further) (L .answers))
         g r (findWords t (before .hits) (before .located)) after
         → GivesFind goal r before after
     find-built r after M F = by-number r after M (rw searched-is at F)

@@ -4,13 +4,13 @@
 -- Assumes nothing.
 use Prim.Native.Nat.{ℕ, _/_}
 use native.Mathlib.Omega.{arith}
-use mathlib.Core.Path.{_≡_, refl, sym, ap, subst, _∙_}
+use mathlib.Core.Path.{_≡_, refl, sym, ap, _∙_}
 use mathlib.Core.Logic.{_≢_, ⊎-elim}
 use mathlib.Core.Bool.{true, false}
 use mathlib.Core.List.{List}
 use lib.ListN.{length, getD}
 use lib.Dec.{eqb}
-use borrow.Author.Tests.{eq-eqb, eqb-true, eqb-false}
+use borrow.Author.Tests.{eq-eqb, eqb-true}
 use Rattle.words.specs.Padded.{padded}
 use Rattle.words.proofs.Padded.{padded-at, padded-full}
 use Rattle.words.proofs.Shared.{case}
@@ -18,30 +18,33 @@ use Rattle.refusal.specs.Outcomes.{Outcome}
 use Rattle.tinydex.specs.declared.DexHeader.{DexHeader}
 use Rattle.dalvik.specs.CodeItem.{Code}
 use Rattle.dalvik.specs.Instructions.{Kind}
-use Rattle.code_table.specs.Build.{Build, wholeBuild, buildOut}
+use Rattle.code_table.specs.Build.{Build, wholeBuild}
 use Rattle.kinds.specs.Kinds.{kindNumber}
-use Rattle.code_item_scan.specs.Scan.{Hit, offs, marks, Scan, asked, scanOut}
+use Rattle.code_item_scan.specs.Scan.{Hit, offs, marks, Scan}
 use Rattle.insn_locator.specs.Locate.{locateOut}
 use Rattle.insn_locator.specs.Answers.{tables}
-use Rattle.completeness.specs.Completeness.{Supposed, FindWords, Enough, Delivers, Call, callOf, Kept, Demand3}
-use Rattle.completeness.proofs.Outcomes.{Lent, Ran, ranOf, builtOf, scannedOf, locatedOf, entriesOf, HoldsTable, Suffices, Finds}
+use Rattle.completeness.specs.Completeness.{Supposed, FindWords, callOf, Demand3}
+use Rattle.completeness.proofs.Outcomes.{Ran, ranOf, scannedOf, locatedOf, entriesOf, HoldsTable, Suffices, Finds}
 use Rattle.completeness.proofs.Demand.{build-is, scan-is, over-outcomes}
-use Rattle.completeness.proofs.Words.{Holds, delivers}
+use Rattle.completeness.proofs.Words.{Holds}
 use Rattle.completeness.proofs.Room.{build-holds, scan-holds, locate-holds}
-use Rattle.completeness.proofs.Enough.{lentOf, enough-suffices}
+use Rattle.completeness.proofs.Enough.{lentOf}
+use Rattle.completeness.proofs.Promise.{Reports, keeps}
 use Rattle.findrefs.proofs.Laws.{built-starts}
 use Rattle.findrefs.specs.Find.{Lengths, lengthsOf, Search, searched, searchOut, Find, found, searchOf, builtTables, findOut}
-use Rattle.findrefs.specs.Gives.{foundNumber, foundHits, replyOf, GivesFind}
+use Rattle.findrefs.specs.Gives.{replyOf, GivesFind}
 use Rattle.findrefs.specs.declared.Found.{Found}
 
 -- ---- an outcome's number is that of the operation that refuses
 searched-number : (hits : List Hit) (A : Outcome) → searched hits A .number ≡ A .number
 searched-number hits A =
-    ⊎-elim (λ (e : eqb (A .number) 0 ≡ true). rw e (sym (eqb-true (A .number) 0 e))) (λ (e : eqb (A .number) 0 ≡ false). rw e) (case (eqb (A .number) 0))
+    ⊎-elim (λ (e : eqb (A .number) 0 ≡ true). rw e (sym (eqb-true (A .number) 0 e))) (λ (e : eqb (A .number) 0 ≡ false). rw e)
+    (case (eqb (A .number) 0))
 
 pub found-number : (B : Build) (R : Search) → found B R .number ≡ R .number
 found-number B R =
-    ⊎-elim (λ (e : eqb (R .number) 0 ≡ true). rw e (sym (eqb-true (R .number) 0 e))) (λ (e : eqb (R .number) 0 ≡ false). rw e) (case (eqb (R .number) 0))
+    ⊎-elim (λ (e : eqb (R .number) 0 ≡ true). rw e (sym (eqb-true (R .number) 0 e))) (λ (e : eqb (R .number) 0 ≡ false). rw e)
+    (case (eqb (R .number) 0))
 
 module _ (s : List ℕ) (h : DexHeader) (kind : Kind) (wanted : List ℕ) (w : FindWords) where
   abbrev m : ℕ
@@ -141,16 +144,12 @@ module _ (s : List ℕ) (h : DexHeader) (kind : Kind) (wanted : List ℕ) (w : F
         answers = λ k. ap (λ (l : List ℕ). getD l k 0) (H .answers) ∙ padded-at (length (w .located .answers)) (R .located .list) k;
       }
 
-      pub kept : Kept (callOf s h (kindNumber kind) wanted) codes kind w (replyOf r) after
-      kept = record {
-        enough = λ E z. suffices-not-four (enough-suffices P kind wanted w E) (sym (G .number) ∙ z);
-        succeeds = λ n.
-            let F : Suffices s m codes kind wanted (lentOf m w) = not-four-suffices (λ z. n (G .number ∙ z)) in
-            G .number ∙ ap (λ (o : Find). o .number) (all-found F);
-        delivers = λ n.
-            let F : Suffices s m codes kind wanted (lentOf m w) = not-four-suffices (λ z. n (G .number ∙ z)) in
-            let H : GivesFind (record { number = 0; build = R .build; hits = R .scan .hits; answers = R .located .list }) r w after = rw (all-found F) at G in
-            rw (H .count) (delivers (over-outcomes s h codes P kind wanted (lentOf m w) F) (holds H));
+      pub reports : Reports (callOf s h (kindNumber kind) wanted) codes kind w (replyOf r) after
+      reports = record {
+        fits = λ n. not-four-suffices (λ z. n (G .number ∙ z));
+        succeeds = λ F. G .number ∙ ap (λ (o : Find). o .number) (all-found F);
+        count = λ F. (rw (all-found F) at G) .count;
+        holds = λ F. holds (rw (all-found F) at G);
       }
 
 pub promised : (s : List ℕ) (h : DexHeader) (number : ℕ) (wanted : List ℕ) (r : Found) (before after : FindWords)
@@ -158,7 +157,7 @@ pub promised : (s : List ℕ) (h : DexHeader) (number : ℕ) (wanted : List ℕ)
 unfolding Demand3
 promised s h number wanted r before after G codes P kind e =
     let H : GivesFind (findOut s h (kindNumber kind) wanted (lengthsOf before)) r before after = rw e at G in
-    rw e (kept s h kind wanted before codes P r after H)
+    rw e (keeps P refl (reports s h kind wanted before codes P r after H))
 
 -- what the finder gives, and what it promises
 pub both : (s : List ℕ) (h : DexHeader) (number : ℕ) (wanted : List ℕ) (r : Found) (before after : FindWords)

@@ -1,11 +1,11 @@
 -- Each way out of the search leaves what its outcome says: a refusal's number is never 0, so that the outcome takes the same branch.
 -- Assumes nothing.
-use Prim.Native.Nat.{ℕ, suc, _+_, _-_, _≤_, _<_}
+use Prim.Native.Nat.{ℕ, suc, _+_, _-_, _≤_}
 use native.Mathlib.Omega.{arith}
 use mathlib.Core.Path.{_≡_, refl, sym, ap, _∙_}
 use mathlib.Core.List.{List, [], _∷_}
 use lib.ListN.{length, take, length-append}
-use lib.Seq.{take-at, take-all}
+use lib.Seq.{take-at}
 use borrow.Author.Tests.{eq-eqb, ne-eqb}
 use Rattle.words.specs.Padded.{zeros, padded}
 use Rattle.words.proofs.Padded.{padded-none}
@@ -21,15 +21,12 @@ use Rattle.code_item_scan.specs.Answers as S
 use Rattle.insn_locator.specs.Locate.{Tables, locateOut}
 use Rattle.insn_locator.specs.Answers.{tables, LocateWords, Located}
 use Rattle.findrefs.specs.Find.{Search, searched, searchOut}
-use Rattle.findrefs.specs.Steps.{SearchWords, searchWords, GivesSearch, LocatesHits, kept, keptCount}
+use Rattle.findrefs.specs.Steps.{SearchWords, searchWords, GivesSearch, LocatesHits}
 
 -- ---- words
-pub take-padded : (n k : ℕ) (xs : List ℕ) → k ≡ length xs → take k (padded n xs) ≡ xs
+take-padded : (n k : ℕ) (xs : List ℕ) → k ≡ length xs → take k (padded n xs) ≡ xs
 unfolding padded
 take-padded n k xs e = take-at xs (zeros (n - length xs)) k (sym e)
-
-pub all-words : (n : ℕ) (w : List ℕ) → length w < n → w ≡ take n w
-all-words n w h = sym (take-all n w (omega arith))
 
 length-offs : (hs : List Hit) → length (offs hs) ≡ length hs
 length-offs [] = refl
@@ -116,7 +113,8 @@ module _ (s : List ℕ) (A : Asked) (T : Tables) (before : SearchWords) where
     first-offsets =
         ap (take k) (G .starts) ∙ take-padded (length (before .hits .offs)) k (offs (scanOf .hits)) (counted ∙ sym (length-offs (scanOf .hits)))
 
-    by-answer : (q : Answer) (after : SearchWords) → length (hits .offs) ≡ length (before .hits .offs) → length (hits .marks) ≡ length (before .hits .marks)
+    by-answer : (q : Answer) (after : SearchWords) → length (hits .offs) ≡ length (before .hits .offs)
+        → length (hits .marks) ≡ length (before .hits .marks)
         → LocatesHits locateOf k q (searchWords hits (before .located)) after → GivesSearch goal q before after
     by-answer (a.Done c) after lo lm L =
         rw (search-some scan-succeeds, eq-eqb (locateOf .number) 0 (sym (L .number)))
@@ -143,7 +141,8 @@ module _ (s : List ℕ) (A : Asked) (T : Tables) (before : SearchWords) where
     pub search-located : (q : Answer) (vs : List ℕ) (cleared : LocateWords) (after : SearchWords) → vs ≡ T .starts
         → length (hits .offs) ≡ length (before .hits .offs) → length (hits .marks) ≡ length (before .hits .marks)
         → length (cleared .further) ≡ length (before .located .further) → length (cleared .answers) ≡ length (before .located .answers)
-        → LocatesHits (locateOut s (tables (T .base) (T .slots) vs (T .shares)) (take k (hits .offs)) (length (cleared .answers)) (length (cleared .further)))
+        → LocatesHits (locateOut s (tables (T .base) (T .slots) vs (T .shares)) (take k (hits .offs))
+        (length (cleared .answers)) (length (cleared .further)))
         k q (searchWords hits cleared) after
         → GivesSearch goal q before after
     search-located q vs cleared after v lo lm lf la L =

@@ -2,7 +2,6 @@
 -- Assumes nothing.
 use Prim.Native.Nat.{ℕ}
 use mathlib.Core.Path.{_≡_}
-use mathlib.Core.List.{List}
 use lib.ListN.{length}
 use Rattle.words.specs.Padded.{zeros, padded}
 use Rattle.refusal.specs.Refusals.{refusalNumber}

@@ -1,7 +1,8 @@
 // The finder, whole (the source's manager): the code table's build, the scan of its region and locate of the scan's list, over lent
 // buffers. What a user is promised, demand 3, is a clause of its contract (crate completeness).
 ghost use Prim.Native.Nat.{_/_};
-ghost use lib.ListN.{length, take};
+ghost use lib.ListN.{length};
+ghost use Rattle.start_words.specs.Starts.{firstStarts};
 ghost use Rattle.code_table.specs.Answer.{tableWords};
 ghost use Rattle.code_item_scan.specs.Scan.{asked};
 ghost use Rattle.code_item_scan.specs.Answers.{hitWords, hitRoomOf};
@@ -41,12 +42,12 @@ fn found_in(
     answers: &mut [u32],
 ) -> Found
     ensures { λ r.
-        let table = tableWords (now (starts .entry)) (now (triples .entry)) (now (slots .entry)) (now (shares .entry)) in
+        let lent = tableWords (now (starts .entry)) (now (triples .entry)) (now (slots .entry)) (now (shares .entry)) in
         let left = tableWords (now (starts .exit)) (now (triples .exit)) (now (slots .exit)) (now (shares .exit)) in
-        let before = findWords table (hitWords (now (offs .entry)) (now (marks .entry))) (locateWords (now (further .entry)) (now (answers .entry))) in
+        let before = findWords lent (hitWords (now (offs .entry)) (now (marks .entry))) (locateWords (now (further .entry)) (now (answers .entry))) in
         let after = findWords left (hitWords (now (offs .exit)) (now (marks .exit))) (locateWords (now (further .exit)) (now (answers .exit))) in
         let A = asked kind (now (wanted .entry)) (region .start) (region .end) in
-        let T = tables (region .start / 16) (now (slots .entry)) (take methods (now (starts .entry))) (now (shares .entry)) in
+        let T = tables (region .start / 16) (now (slots .entry)) (firstStarts methods (now (starts .entry))) (now (shares .entry)) in
         let room = hitRoomOf (before .hits) in
         let o = searchOut (now (file .entry)) A T room (length (now (further .entry))) (length (now (answers .entry))) in
         ⌜ FoundIn o region r before after ⌝ }
@@ -94,15 +95,15 @@ pub fn find(
     answers: &mut [u32],
 ) -> Found
     ensures gives { λ r.
-        let table = tableWords (now (starts .entry)) (now (triples .entry)) (now (slots .entry)) (now (shares .entry)) in
+        let lent = tableWords (now (starts .entry)) (now (triples .entry)) (now (slots .entry)) (now (shares .entry)) in
         let left = tableWords (now (starts .exit)) (now (triples .exit)) (now (slots .exit)) (now (shares .exit)) in
-        let before = findWords table (hitWords (now (offs .entry)) (now (marks .entry))) (locateWords (now (further .entry)) (now (answers .entry))) in
+        let before = findWords lent (hitWords (now (offs .entry)) (now (marks .entry))) (locateWords (now (further .entry)) (now (answers .entry))) in
         let after = findWords left (hitWords (now (offs .exit)) (now (marks .exit))) (locateWords (now (further .exit)) (now (answers .exit))) in
         ⌜ GivesFind (findOut (now (file .entry)) header kind (now (wanted .entry)) (lengthsOf before)) r before after ⌝ }
     ensures demand_3 { λ r.
-        let table = tableWords (now (starts .entry)) (now (triples .entry)) (now (slots .entry)) (now (shares .entry)) in
+        let lent = tableWords (now (starts .entry)) (now (triples .entry)) (now (slots .entry)) (now (shares .entry)) in
         let left = tableWords (now (starts .exit)) (now (triples .exit)) (now (slots .exit)) (now (shares .exit)) in
-        let before = findWords table (hitWords (now (offs .entry)) (now (marks .entry))) (locateWords (now (further .entry)) (now (answers .entry))) in
+        let before = findWords lent (hitWords (now (offs .entry)) (now (marks .entry))) (locateWords (now (further .entry)) (now (answers .entry))) in
         let after = findWords left (hitWords (now (offs .exit)) (now (marks .exit))) (locateWords (now (further .exit)) (now (answers .exit))) in
         ⌜ Demand3 (callOf (now (file .entry)) header kind (now (wanted .entry))) before (replyOf r) after ⌝ }
 {

@@ -1,7 +1,7 @@
 // The finder's second half: the scan of a build's region and locate of its list, over lent buffers.
 ghost use Prim.Native.Nat.{_≤_, _/_};
-ghost use mathlib.Core.Path.{_≡_};
 ghost use lib.ListN.{length, take};
+ghost use Rattle.start_words.specs.Starts.{firstStarts};
 ghost use Rattle.code_item_scan.specs.Scan.{asked};
 ghost use Rattle.code_item_scan.specs.Answers.{hitWords, hitRoomOf};
 ghost use Rattle.insn_locator.specs.Locate.{locateOut};
@@ -64,17 +64,6 @@ fn locate_hits(
     }
 }
 
-// The first n words of w, or all where it has fewer.
-fn first_words(w: &[u32], n: u32) -> &[u32]
-    ensures { λ r. ⌜ now r ≡ take n (now (w .entry)) ⌝ }
-{
-    let k = n as usize;
-    if w.len() < k {
-        return w;
-    }
-    &w[..k]
-}
-
 // Scan of a region and locate of its list, over the tables that a build returned or any others. Of the start words those of the
 // methods are passed on, so that locate asks for as many further words as there are methods, however many start words were lent.
 pub(crate) fn search(
@@ -95,7 +84,7 @@ pub(crate) fn search(
         let before = searchWords (hitWords (now (offs .entry)) (now (marks .entry))) (locateWords (now (further .entry)) (now (answers .entry))) in
         let after = searchWords (hitWords (now (offs .exit)) (now (marks .exit))) (locateWords (now (further .exit)) (now (answers .exit))) in
         let A = asked kind (now (wanted .entry)) (region .start) (region .end) in
-        let T = tables (region .start / 16) (now (slots .entry)) (take methods (now (starts .entry))) (now (shares .entry)) in
+        let T = tables (region .start / 16) (now (slots .entry)) (firstStarts methods (now (starts .entry))) (now (shares .entry)) in
         let room = hitRoomOf (before .hits) in
         let o = searchOut (now (file .entry)) A T room (length (now (further .entry))) (length (now (answers .entry))) in
         ⌜ GivesSearch o r before after ⌝ }
@@ -108,7 +97,7 @@ pub(crate) fn search(
             file,
             region.start / 16,
             slots,
-            first_words(starts, methods),
+            start_words::first(starts, methods),
             shares,
             n,
             offs,

@@ -9,7 +9,8 @@ use Rattle.tinydex.specs.declared.Table.{Table}
 use Rattle.groups.specs.declared.Width.{Width}
 use Rattle.groups.specs.Keys.{numberAt, fileKey}
 
-pub key-first : (s : List ℕ) (t : Table) (size : ℕ) (w : Width) → fileKey s t (record { stride = size; place = 0; width = w }) ≡ (λ (i : ℕ). numberAt w s (item (t .off) size i))
+pub key-first : (s : List ℕ) (t : Table) (size : ℕ) (w : Width)
+    → fileKey s t (record { stride = size; place = 0; width = w }) ≡ (λ (i : ℕ). numberAt w s (item (t .off) size i))
 unfolding fileKey
 key-first s t size w = fun-ext (λ i. ap (numberAt w s) (add-zero (item (t .off) size i)))
 

@@ -35,7 +35,8 @@ first-zero n ns e =
 -- the whole's number is that of a build, or 0
 pub first-among : (n : ℕ) (ns : List ℕ) (m : ℕ) → firstRefusal (n ∷ ns) ≡ m → (n ≡ m) ⊎ (firstRefusal ns ≡ m)
 first-among n ns m e =
-    ⊎-elim (λ (t : eqb n 0 ≡ true). inr (sym (first-next n ns (eqb-true n 0 t)) ∙ e)) (λ (t : eqb n 0 ≡ false). inl (sym (first-here n ns (eqb-false n 0 t)) ∙ e))
+    ⊎-elim (λ (t : eqb n 0 ≡ true). inr (sym (first-next n ns (eqb-true n 0 t)) ∙ e))
+    (λ (t : eqb n 0 ≡ false). inl (sym (first-here n ns (eqb-false n 0 t)) ∙ e))
     (case (eqb n 0))
 
 -- ---- one build, as a part of the whole
@@ -48,10 +49,12 @@ unfolding kept
 kept-none n g d = rw (ne-eqb n 0 d)
 
 -- no build refuses: its words and its count are its own
-pub part-words : {n : ℕ} {o : Outcome} {r : Answer} {before after : GroupWords} → n ≡ 0 → Gives o r before after → Laid (kept n (o .groups)) before after
+pub part-words : {n : ℕ} {o : Outcome} {r : Answer} {before after : GroupWords} → n ≡ 0 → Gives o r before after
+    → Laid (kept n (o .groups)) before after
 part-words {n} {o} {r} {before} {after} e g = subst (λ (x : GroupWords). Laid x before after) (sym (kept-all n (o .groups) e)) (g .words)
 
-pub part-count : {n x : ℕ} {o : Outcome} {r : Answer} {before after : GroupWords} → n ≡ 0 → r ≡ Done x → Gives o r before after → x ≡ length (kept n (o .groups) .ids)
+pub part-count : {n x : ℕ} {o : Outcome} {r : Answer} {before after : GroupWords} → n ≡ 0 → r ≡ Done x → Gives o r before after
+    → x ≡ length (kept n (o .groups) .ids)
 part-count {n} {x} {o} e d g = sym (ap answerCount d) ∙ (g .count ∙ ap (λ (w : GroupWords). length (w .ids)) (sym (kept-all n (o .groups) e)))
 
 pub part-done : {x : ℕ} {o : Outcome} {r : Answer} {before after : GroupWords} → r ≡ Done x → Gives o r before after → o .number ≡ 0

@@ -1,5 +1,4 @@
 -- In the order in which a reader needs them.
-pub mod Lists
 pub mod Groups
 pub mod Keys
 pub mod Built

@@ -8,18 +8,17 @@
 -- Assumes nothing.
 use Prim.Native.Nat.{ℕ, zero, suc, _+_, _-_, _*_, _/_, _%_, _^_, _≤_, _<_, min, max}
 use native.Mathlib.Omega.{arith}
-use native.Mathlib.Numerals.{add-one}
 use native.Mathlib.Nat.{div-eq-of-lt, zero-div}
-use mathlib.Core.Path.{_≡_, refl, ap, ap₂, sym, subst, _∙_}
-use mathlib.Core.Bool.{Bool, true, false, cond, _&&_, _||_}
+use mathlib.Core.Path.{_≡_, refl, ap, sym, _∙_}
+use mathlib.Core.Bool.{Bool, true, false, _||_}
 use mathlib.Core.Logic.{_⊎_, inl, inr, ⊎-elim}
 use mathlib.Core.List.{List, [], _∷_, _++_}
 use lib.ListN.{length, getD, set, length-set, List·getD-eq-default}
 use lib.Seq.{getD-set-same, getD-set-other}
-use lib.Dec.{ltb, eqb}
+use lib.Dec.{eqb}
 use lib.Bits.{bitOr, or-shr, or-step, shifted-even}
 use lib.Pow.{pow-lt, pow-add, shl-exact, shl-shr, shr-shr}
-use borrow.Author.Tests.{lt-ltb, le-ltb, eq-eqb, ne-eqb, eqb-true, eqb-false}
+use borrow.Author.Tests.{lt-ltb, le-ltb, eq-eqb, eqb-true, eqb-false}
 use Rattle.words.specs.Padded.{zeros}
 use Rattle.words.proofs.Padded.{padded-at, padded-none}
 use Rattle.words.proofs.Shared.{case, or-right}
@@ -34,7 +33,8 @@ last-bit t q m e h = omega arith
 or-bit : (w v k : ℕ) → bitOf (bitOr w v) k ≡ max (bitOf w k) (bitOf v k)
 or-bit w v k =
     ap (λ (t : ℕ). t % 2) (or-shr w v k)
-    ∙ last-bit (bitOr (w / 2 ^ k) (v / 2 ^ k)) (bitOr (w / 2 ^ k / 2) (v / 2 ^ k / 2)) (max (bitOf w k) (bitOf v k)) (or-step (w / 2 ^ k) (v / 2 ^ k)) (omega arith)
+    ∙ last-bit (bitOr (w / 2 ^ k) (v / 2 ^ k)) (bitOr (w / 2 ^ k / 2) (v / 2 ^ k / 2)) (max (bitOf w k) (bitOf v k)) (or-step (w / 2 ^ k) (v / 2 ^ k))
+    (omega arith)
 
 one-bit : (j : ℕ) → bitOf (1 * 2 ^ j) j ≡ 1
 one-bit j = ap (λ (t : ℕ). t % 2) (shl-shr 1 j)
@@ -45,7 +45,8 @@ other-bit j k d = ⊎-elim below above (below-or-not k j)
     below : k < j → bitOf (1 * 2 ^ j) k ≡ 0
     below h =
         let e : j ≡ suc (j - k - 1) + k = omega arith in
-        let p : 1 * 2 ^ j ≡ 1 * 2 ^ suc (j - k - 1) * 2 ^ k = ap (λ (t : ℕ). 1 * 2 ^ t) e ∙ ap (λ (t : ℕ). 1 * t) (pow-add 2 (suc (j - k - 1)) k) ∙ omega arith in
+        let p : 1 * 2 ^ j ≡ 1 * 2 ^ suc (j - k - 1) * 2 ^ k =
+        ap (λ (t : ℕ). 1 * 2 ^ t) e ∙ ap (λ (t : ℕ). 1 * t) (pow-add 2 (suc (j - k - 1)) k) ∙ omega arith in
         ap (λ (t : ℕ). t / 2 ^ k % 2) p ∙ ap (λ (t : ℕ). t % 2) (shl-shr (1 * 2 ^ suc (j - k - 1)) k) ∙ shifted-even 1 (j - k - 1)
 
     above : j ≤ k → bitOf (1 * 2 ^ j) k ≡ 0
@@ -76,7 +77,9 @@ joined bits x = set bits (x / 64) (withBit (getD bits (x / 64) 0) (x % 64))
 module _ (bits : List ℕ) (x : ℕ) (h : x / 64 < length bits) where
   same : isHeld (joined bits x) x ≡ true
   unfolding isHeld
-  same = rw (getD-set-same bits (x / 64) _ 0 h) (eq-eqb _ 1 (with-bit (getD bits (x / 64) 0) (x % 64) (x % 64) (omega arith) ∙ omega (arith, one-bit (x % 64))))
+  same =
+      rw (getD-set-same bits (x / 64) _ 0 h)
+      (eq-eqb _ 1 (with-bit (getD bits (x / 64) 0) (x % 64) (x % 64) (omega arith) ∙ omega (arith, one-bit (x % 64))))
 
   other : (y : ℕ) → (y ≡ x → ⊥) → isHeld (joined bits x) y ≡ isHeld bits y
   unfolding isHeld
@@ -97,7 +100,8 @@ module _ (bits : List ℕ) (x : ℕ) (h : x / 64 < length bits) where
 
   added : (y : ℕ) → isHeld (joined bits x) y ≡ (isHeld bits y || eqb y x)
   added y =
-      ⊎-elim (λ t. ap (isHeld (joined bits x)) (eqb-true y x t) ∙ same ∙ sym (or-true (isHeld bits y)) ∙ ap (λ (b : Bool). isHeld bits y || b) (sym t))
+      ⊎-elim
+      (λ t. ap (isHeld (joined bits x)) (eqb-true y x t) ∙ same ∙ sym (or-true (isHeld bits y)) ∙ ap (λ (b : Bool). isHeld bits y || b) (sym t))
       (λ t. other y (eqb-false y x t) ∙ sym (or-false (isHeld bits y)) ∙ ap (λ (b : Bool). isHeld bits y || b) (sym t)) (case (eqb y x))
 
   pub adds : Adds x bits (joined bits x) true
@@ -143,7 +147,8 @@ module _ (bits : List ℕ) where
   held-split zero k x = let a : 0 + k ≡ k = omega arith in let b : x + 0 ≡ x = omega arith in rw (a, b)
   held-split (suc j) k x =
       let a : suc j + k ≡ suc (j + k) = omega arith in
-      let e : heldFrom (j + k) bits (x + 1) ≡ heldFrom j bits (x + 1) ++ heldFrom k bits (x + suc j) = held-split j k (x + 1) ∙ ap (λ (t : ℕ). heldFrom j bits (x + 1) ++ heldFrom k bits t) (omega arith) in
+      let e : heldFrom (j + k) bits (x + 1) ≡ heldFrom j bits (x + 1) ++ heldFrom k bits (x + suc j) =
+      held-split j k (x + 1) ∙ ap (λ (t : ℕ). heldFrom j bits (x + 1) ++ heldFrom k bits t) (omega arith) in
       ⊎-elim (λ (t : isHeld bits x ≡ true). rw (a, t, e)) (λ (t : isHeld bits x ≡ false). rw (a, t, e)) (case (isHeld bits x))
 
   -- those from x up to x + k, as a set
@@ -157,7 +162,8 @@ module _ (bits : List ℕ) where
 
   first-or-later : (x k y : ℕ) → Among x (suc k) y → (y ≡ x) ⊎ Among (x + 1) k y
   first-or-later x k y a =
-      ⊎-elim (λ (l : x < y). inr record { low = omega arith; high = omega (arith, a .high); held = a .held }) (λ (l : y ≤ x). inl (omega (arith, a .low))) (below-or-not x y)
+      ⊎-elim (λ (l : x < y). inr record { low = omega arith; high = omega (arith, a .high); held = a .held })
+      (λ (l : y ≤ x). inl (omega (arith, a .low))) (below-or-not x y)
 
   from-set : (k x : ℕ) → SetOf (Among x k) (heldFrom k bits x)
   unfolding heldFrom
@@ -165,17 +171,22 @@ module _ (bits : List ℕ) where
   from-set (suc k) x =
       let s = from-set k (x + 1) in
       ⊎-elim
-      (λ (t : isHeld bits x ≡ true). rw t (set-cons x (λ y a. omega (arith, a .low)) s (record { low = omega arith; high = omega arith; held = t }) (later x k) (first-or-later x k)))
-      (λ (t : isHeld bits x ≡ false). rw t (set-same (later x k) (λ y a. ⊎-elim (λ (e : y ≡ x). absurd (let z : isHeld bits y ≡ false = ap (isHeld bits) e ∙ t in let q = a .held in let c : _≡_ {A = ℕ} 0 1 = cc in omega arith)) (λ (l : Among (x + 1) k y). l) (first-or-later x k y a)) s))
+      (λ (t : isHeld bits x ≡ true). rw t
+      (set-cons x (λ y a. omega (arith, a .low)) s (record { low = omega arith; high = omega arith; held = t }) (later x k) (first-or-later x k)))
+      (λ (t : isHeld bits x ≡ false). rw t (set-same (later x k) (λ y a. ⊎-elim (λ (e : y ≡ x). absurd
+      (let z : isHeld bits y ≡ false = ap (isHeld bits) e ∙ t in let q = a .held in let c : _≡_ {A = ℕ} 0 1 = cc in omega arith))
+      (λ (l : Among (x + 1) k y). l) (first-or-later x k y a)) s))
       (case (isHeld bits x))
 
   -- of no more words than indices of 32 bits fill, all
   pub indices-set : length bits ≤ 67108864 → SetOf (λ x. isHeld bits x ≡ true) (indices bits)
-  indices-set h = set-same (λ y a. a .held) (λ y t. record { low = omega arith; high = inside y t; held = t }) (from-set (64 * min (length bits) 67108864) 0)
+  indices-set h =
+      set-same (λ y a. a .held) (λ y t. record { low = omega arith; high = inside y t; held = t }) (from-set (64 * min (length bits) 67108864) 0)
     where
       inside : (y : ℕ) → isHeld bits y ≡ true → y < 0 + 64 * min (length bits) 67108864
       inside y t =
-          ⊎-elim (λ (l : y / 64 < length bits). omega arith) (λ (l : length bits ≤ y / 64). absurd (let f = outside bits y l in let z : _≡_ {A = ℕ} 0 1 = cc in omega arith))
+          ⊎-elim (λ (l : y / 64 < length bits). omega arith)
+          (λ (l : length bits ≤ y / 64). absurd (let f = outside bits y l in let z : _≡_ {A = ℕ} 0 1 = cc in omega arith))
           (below-or-not (y / 64) (length bits))
 
 -- ---- one word, bit by bit

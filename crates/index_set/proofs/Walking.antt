@@ -5,40 +5,41 @@ use Prim.Native.Nat.{ℕ, _+_, _≤_, _<_}
 use native.Mathlib.Omega.{arith}
 use native.Mathlib.Numerals.{add-one}
 use mathlib.Core.Path.{_≡_, refl, sym, subst}
-use mathlib.Core.List.{List, [], _∷_}
+use mathlib.Core.List.{List, _∷_}
 use lib.ListN.{length, getD, drop, drop-of-length-le}
 use lib.Seq.{drop-cons}
 use Rattle.word_set.specs.declared.Insertion.{Insertion}
 use Rattle.word_set.specs.declared.Insertion.the-variants.{Held, Full}
-use Rattle.index_set.specs.Marked.{Added, AddedAll, none, next, stop}
+use Rattle.index_set.specs.Marked.{SetWords, Added, AddedAll, none, next, stop}
 
-pub record Walking (marks₀ out₀ : List ℕ) (n : ℕ) (more marks out : List ℕ) (held i : ℕ) : Type 0 where
+pub record Walking (start : SetWords) (n : ℕ) (more : List ℕ) (here : SetWords) (held i : ℕ) : Type 0 where
   pub inside : i ≤ length more
-  pub marks-long : length marks ≡ length marks₀
-  pub out-long : length out ≡ length out₀
-  pub toward : (u v : List ℕ) (r : Insertion) → AddedAll (drop i more) held marks u out v r → AddedAll more n marks₀ u out₀ v r
+  pub marks-long : length (here .marks) ≡ length (start .marks)
+  pub words-long : length (here .words) ≡ length (start .words)
+  pub toward : (u : SetWords) (r : Insertion) → AddedAll (drop i more) held here u r → AddedAll more n start u r
 
-pub walk-start : (marks out : List ℕ) (n : ℕ) (more : List ℕ) → Walking marks out n more marks out n 0
-walk-start marks out n more = record { inside = omega arith; marks-long = refl; out-long = refl; toward = λ u v r a. a }
+pub walk-start : (start : SetWords) (n : ℕ) (more : List ℕ) → Walking start n more start n 0
+walk-start start n more = record { inside = omega arith; marks-long = refl; words-long = refl; toward = λ u r a. a }
 
-module _ {marks₀ out₀ : List ℕ} {n : ℕ} {more marks out : List ℕ} {held i : ℕ} (w : Walking marks₀ out₀ n more marks out held i) where
-  pub walk-end : length more ≤ i → AddedAll more n marks₀ marks out₀ out (Held held)
-  walk-end h = w .toward marks out (Held held) (subst (λ (l : List ℕ). AddedAll l held marks marks out out (Held held)) (sym (drop-of-length-le more h)) none)
+module _ {start : SetWords} {n : ℕ} {more : List ℕ} {here : SetWords} {held i : ℕ} (w : Walking start n more here held i) where
+  pub walk-end : length more ≤ i → AddedAll more n start here (Held held)
+  walk-end h = w .toward here (Held held) (subst (λ (l : List ℕ). AddedAll l held here here (Held held)) (sym (drop-of-length-le more h)) none)
 
-  module _ (h : i < length more) {marks′ out′ : List ℕ} {r : Insertion} (a : Added (getD more i 0) held marks marks′ out out′ r) where
+  module _ (h : i < length more) {after : SetWords} {r : Insertion} (a : Added (getD more i 0) held here after r) where
     split : drop i more ≡ getD more i 0 ∷ drop (i + 1) more
     split = rw add-one (drop-cons more i 0 h)
 
-    first : {q : Insertion} → r ≡ q → Added (getD more i 0) held marks marks′ out out′ q
-    first e = subst (Added (getD more i 0) held marks marks′ out out′) e a
+    first : {q : Insertion} → r ≡ q → Added (getD more i 0) held here after q
+    first e = subst (Added (getD more i 0) held here after) e a
 
-    pub walk-next : (m : ℕ) → r ≡ Held m → length marks′ ≡ length marks → length out′ ≡ length out → Walking marks₀ out₀ n more marks′ out′ m (i + 1)
+    pub walk-next : (m : ℕ) → r ≡ Held m → length (after .marks) ≡ length (here .marks) → length (after .words) ≡ length (here .words)
+        → Walking start n more after m (i + 1)
     walk-next m e l k = record {
       inside = omega arith;
       marks-long = omega (arith, w .marks-long);
-      out-long = omega (arith, w .out-long);
-      toward = λ u v q b. w .toward u v q (subst (λ (l : List ℕ). AddedAll l held marks u out v q) (sym split) (next (first e) b));
+      words-long = omega (arith, w .words-long);
+      toward = λ u q b. w .toward u q (subst (λ (l : List ℕ). AddedAll l held here u q) (sym split) (next (first e) b));
     }
 
-    pub walk-full : r ≡ Full → AddedAll more n marks₀ marks′ out₀ out′ Full
-    walk-full e = w .toward marks′ out′ Full (subst (λ (l : List ℕ). AddedAll l held marks marks′ out out′ Full) (sym split) (stop (first e)))
+    pub walk-full : r ≡ Full → AddedAll more n start after Full
+    walk-full e = w .toward after Full (subst (λ (l : List ℕ). AddedAll l held here after Full) (sym split) (stop (first e)))

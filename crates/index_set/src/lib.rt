@@ -4,7 +4,7 @@ pub mod marked; // marked.rt: a set that is collected from words in any order
 
 use word_set::Insertion;
 ghost use mathlib.Core.Path.{_≡_};
-ghost use Prim.Native.Nat.{_+_, _*_, _≤_, _<_};
+ghost use Prim.Native.Nat.{_+_, _*_, _<_};
 ghost use lib.ListN.{length};
 ghost use Rattle.word_set.specs.Sets.{Joins};
 ghost use Rattle.index_set.specs.Bits.{isHeld, Adds, heldFrom, indices};

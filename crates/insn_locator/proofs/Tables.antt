@@ -74,6 +74,7 @@ module _ (s : List ℕ) (T : Tables) (last : List ℕ) (t v : ℕ) (slot : v ≡
       → none ≡ answered s T last t (slotAt (T .base) (T .slots) t)
   entry-unknown m h e k = rw k at (entry-by (some m) h e)
 
-  pub entry-tried : (m : ℕ) (r : Answered) → 0 < v → some m ≡ firstOf (T .shares) v → hasStart (T .starts) m ≡ true → r ≡ tried s (T .starts) last v m t
+  pub entry-tried : (m : ℕ) (r : Answered) → 0 < v → some m ≡ firstOf (T .shares) v → hasStart (T .starts) m ≡ true
+      → r ≡ tried s (T .starts) last v m t
       → some r ≡ answered s T last t (slotAt (T .base) (T .slots) t)
   entry-tried m r h e k q = ap some q ∙ (rw k at (entry-by (some m) h e))

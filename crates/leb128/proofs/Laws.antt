@@ -5,10 +5,9 @@ use native.Mathlib.Omega.{arith}
 use native.Mathlib.Numerals.{add-one}
 use native.Mathlib.Nat.{sub-self, zero-add}
 use mathlib.Core.Path.{_≡_, refl, sym, ap, subst, _∙_}
-use mathlib.Core.Bool.{Bool, true, false, cond}
 use lib.Dec.{ltb}
 use mathlib.Core.List.{List, [], _∷_}
-use lib.ListN.{length, getD, drop, length-drop}
+use lib.ListN.{length, drop, length-drop}
 use lib.Seq.{drop-cons}
 use borrow.Author.Tests.{lt-ltb, le-ltb, ltb-true}
 use Rattle.structs.specs.Reads.{ByteAt}
@@ -84,7 +83,8 @@ module _ (s : List ℕ) (p i : ℕ) where
   unfolding lenOf ulebLen
   len-done b a h t = rw (drop-cons s i 0 h, ← a .is, lt-ltb _ _ t)
 
-  pub len-again : (b : ℕ) (r : Len) → ByteAt s i b → i < length s → 128 ≤ b → p ≤ i → ahead (i - p) (ulebLen s i) ≡ r → ahead (i + 1 - p) (ulebLen s (i + 1)) ≡ r
+  pub len-again : (b : ℕ) (r : Len) → ByteAt s i b → i < length s → 128 ≤ b → p ≤ i → ahead (i - p) (ulebLen s i) ≡ r
+      → ahead (i + 1 - p) (ulebLen s (i + 1)) ≡ r
   len-again b r a h t q e =
       let z : i + 1 - p ≡ i - p + 1 = omega arith in
       ap (λ (n : ℕ). ahead n (ulebLen s (i + 1))) z ∙ (ahead-longer (i - p) _ ∙ (ap (ahead (i - p)) (sym (len-more b a h t)) ∙ e))
@@ -137,7 +137,8 @@ unfolding uleb
 keeps zero s i = refl
 keeps (suc k) s i =
     cond-elim (KeepsR (suc k) s i) (ltb i (length s)) _ _
-    (λ t. cond-elim (KeepsR (suc k) s i) (ends k (byte s i)) _ _ (λ _. one-keeps k s i _ (ltb-true i _ t)) (λ _. carry-keeps k s i _ (uleb k s (i + 1)) (keeps k s (i + 1))))
+    (λ t. cond-elim (KeepsR (suc k) s i) (ends k (byte s i)) _ _ (λ _. one-keeps k s i _ (ltb-true i _ t))
+    (λ _. carry-keeps k s i _ (uleb k s (i + 1)) (keeps k s (i + 1))))
     (λ _. refl)
 
 -- a number read by ulebFast: below 2 ^ 35, of 1 to 5 bytes, inside
@@ -170,7 +171,8 @@ longer-in k (l.Refused r) h = h
 lenOf-in : (s : List ℕ) → LenIn (length s) (lenOf s)
 unfolding lenOf LenIn
 lenOf-in [] = refl
-lenOf-in (b ∷ r) = cond-elim (LenIn (suc (length r))) (ltb b 128) _ _ (λ _. (omega arith, omega arith)) (λ _. longer-in (length r) (lenOf r) (lenOf-in r))
+lenOf-in (b ∷ r) =
+    cond-elim (LenIn (suc (length r))) (ltb b 128) _ _ (λ _. (omega arith, omega arith)) (λ _. longer-in (length r) (lenOf r) (lenOf-in r))
 
 pub len-in : (s : List ℕ) (i m : ℕ) → l.Bytes m ≡ ulebLen s i → (1 ≤ m) × (i + m ≤ length s)
 unfolding ulebLen LenIn

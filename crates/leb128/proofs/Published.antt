@@ -1,6 +1,6 @@
 -- On a published number both readers agree with its published meaning: each takes the bytes that the number has, one by one.
 -- Assumes nothing.
-use Prim.Native.Nat.{ℕ, zero, suc, _+_, _*_, _-_, _%_, _<_, _≤_}
+use Prim.Native.Nat.{ℕ, zero, suc, _+_, _*_, _-_, _<_, _≤_}
 use native.Mathlib.Omega.{arith}
 use native.Mathlib.Numerals.{add-one}
 use mathlib.Core.Path.{_≡_, refl, sym, ap, ap₂, _∙_}
@@ -11,15 +11,13 @@ use borrow.Author.Tests.{lt-ltb, le-ltb}
 use Rattle.dalvik.specs.Numbers.{byte, Leb128, Uleb128}
 use Rattle.dalvik.specs.Numbers.Leb128.{last-byte, more-bytes}
 use Rattle.leb128.specs.Leb.{uleb, ulebFast, carry, lenOf, ulebLen, longer}
-use Rattle.leb128.specs.declared.Uleb.{Uleb}
 use Rattle.leb128.specs.declared.Uleb.the-variants as u
-use Rattle.leb128.specs.declared.Len.{Len}
 use Rattle.leb128.specs.declared.Len.the-variants as l
 
 -- a number ends after its start
-pub ends-behind : {s : List ℕ} {k i v e : ℕ} → Leb128 s k i v e → i < e
-ends-behind (last-byte h b) = omega arith
-ends-behind (more-bytes h b r) = omega (arith, ends-behind r)
+pub ends-after : {s : List ℕ} {k i v e : ℕ} → Leb128 s k i v e → i < e
+ends-after (last-byte h b) = omega arith
+ends-after (more-bytes h b r) = omega (arith, ends-after r)
 
 -- it has a byte
 some-bytes : {s : List ℕ} {k i v e : ℕ} → Leb128 s k i v e → 0 < k
@@ -52,9 +50,11 @@ carried b v m n lo hi e = number _ _ _ _ (omega arith) (sym e)
 pub read-value : {s : List ℕ} {k i v e : ℕ} → ((j : ℕ) → byte s j < 256) → Leb128 s k i v e → uleb k s i ≡ u.Number v (e - i)
 read-value {s} {i = i} small (last-byte {k = k} h b) = one s k i h b ∙ number _ _ _ _ refl (omega arith)
 read-value {s} {i = i} {e = e} small (more-bytes {k = k} {v = v} h b r) =
-    more s k i (some-bytes r) h b ∙ (ap (carry (byte s i)) (read-value small r) ∙ carried (byte s i) v (e - (i + 1)) (e - i) b (small i) (omega (arith, ends-behind r)))
+    more s k i (some-bytes r) h b
+    ∙ (ap (carry (byte s i)) (read-value small r) ∙ carried (byte s i) v (e - (i + 1)) (e - i) b (small i) (omega (arith, ends-after r)))
 
-read-len-step : (s : List ℕ) (i e : ℕ) → i < length s → 128 ≤ byte s i → i + 1 < e → ulebLen s (i + 1) ≡ l.Bytes (e - (i + 1)) → ulebLen s i ≡ l.Bytes (e - i)
+read-len-step : (s : List ℕ) (i e : ℕ) → i < length s → 128 ≤ byte s i → i + 1 < e → ulebLen s (i + 1) ≡ l.Bytes (e - (i + 1))
+    → ulebLen s i ≡ l.Bytes (e - i)
 unfolding ulebLen lenOf
 read-len-step s i e h b q r =
     rw (drop-cons s i 0 h, le-ltb _ _ b) (ap longer (rw add-one at r) ∙ ap l.Bytes (omega arith))
@@ -65,7 +65,7 @@ read-len-last s i e h b q = rw (drop-cons s i 0 h, lt-ltb _ _ b) (ap l.Bytes (om
 
 pub read-length : {s : List ℕ} {k i v e : ℕ} → Leb128 s k i v e → ulebLen s i ≡ l.Bytes (e - i)
 read-length {s} {i = i} (last-byte h b) = read-len-last s i (i + 1) h b refl
-read-length {s} {i = i} {e = e} (more-bytes h b r) = read-len-step s i e h b (ends-behind r) (read-length r)
+read-length {s} {i = i} {e = e} (more-bytes h b r) = read-len-step s i e h b (ends-after r) (read-length r)
 
 -- of at most five bytes: `read_uleb128_fast` gives the value and the length, and `read_uleb128_len` the length
 pub fast-published : {s : List ℕ} {i v e : ℕ} → ((j : ℕ) → byte s j < 256) → Uleb128 s i v e → ulebFast s i ≡ u.Number v (e - i)

@@ -1,6 +1,6 @@
 -- Laws of the first place of a kind.
 --     split     a number is below another or not
---     First     onward, first-unique, first-none
+--     First     onward, first-unique, first-upto, first-none
 --     Passed    none-yet, pass-more, pass-one, passed-first
 --     Lane      lane-is, lane-not, lane-left
 --     Tested    none-tested, one-tested
@@ -28,23 +28,27 @@ split a b = go (ltb a b) refl
 
 module _ {P : ℕ → Type 0} {from to : ℕ} where
   pub onward : {r : ℕ} → from ≤ to → First P from to r → from ≤ r
-  onward {r} h f = ⊎-elim (f .behind) (λ (l : to ≤ r). omega arith) (split r to)
+  onward {r} h f = ⊎-elim (f .after) (λ (l : to ≤ r). omega arith) (split r to)
 
   not-below : {r q : ℕ} → First P from to r → First P from to q → r < q → ⊥
   not-below {r} {q} f g l =
       let m : r < to = omega (arith, g .inside) in
-      g .none-before r (f .behind m) l (f .here m)
+      g .none-before r (f .after m) l (f .here m)
 
   pub first-unique : {r q : ℕ} → First P from to r → First P from to q → r ≡ q
   first-unique {r} {q} f g =
       ⊎-elim (λ (l : r < q). absurd (not-below f g l))
       (λ (l : q ≤ r). ⊎-elim (λ (m : q < r). absurd (not-below g f m)) (λ (m : r ≤ q). omega arith) (split q r)) (split r q)
 
+  -- the stretch's end said in another way
+  pub first-upto : {end r : ℕ} → to ≡ end → First P from to r → First P from end r
+  first-upto {end} {r} e f = subst (λ (t : ℕ). First P from t r) e f
+
   -- in a stretch that is empty or turned round there is none
   pub first-none : to ≤ from → First P from to to
   first-none h = record {
     inside = omega arith;
-    behind = λ m. absurd (omega arith);
+    after = λ m. absurd (omega arith);
     here = λ m. absurd (omega arith);
     none-before = λ k l m. absurd (omega arith);
   }
@@ -68,13 +72,13 @@ module _ {P : ℕ → Type 0} {from to : ℕ} where
   pass-one {r} p h o = pass-more 1 p (omega arith) (λ k l i. o (let e : r + k ≡ r = omega arith in subst P e i))
 
   pub passed-first : {r : ℕ} → Passed P from to r → (r < to → P r) → First P from to r
-  passed-first p h = record { inside = p .inside; behind = λ _. p .onward; here = h; none-before = p .none-before }
+  passed-first p h = record { inside = p .inside; after = λ _. p .onward; here = h; none-before = p .none-before }
 
   -- .. and then the first place of a part of the rest, which is all of it or has one
   pub part-first : {p q r : ℕ} → Passed P from to p → p ≤ q → q ≤ to → First P p q r → (q ≡ to) ⊎ (r < q) → First P from to r
   part-first {p} {q} {r} c l h f o = record {
     inside = omega (arith, f .inside);
-    behind = λ m. omega (arith, f .behind (less m));
+    after = λ m. omega (arith, f .after (less m));
     here = λ m. f .here (less m);
     none-before = λ k m n i. ⊎-elim (λ (d : k < p). c .none-before k m d i) (λ (d : p ≤ k). f .none-before k d n i) (split k p);
   }
@@ -92,7 +96,8 @@ module _ {P : ℕ → Type 0} {from to : ℕ} where
       (⊎-elim (λ (h : to < p + 16). inl (omega (arith, c .passed .inside)))
       (λ (o : One P p 16).
       ⊎-elim (λ (m : r < p + n). inr m)
-      (λ (m : p + n ≤ r). ⊎-elim (λ (h : to < p + 16). inl (omega (arith, c .passed .inside))) (λ (h : p + 16 ≤ to). absurd (f .none-before (p + o .at) (omega arith) (omega (arith, o .below)) (o .is))) (split to (p + 16)))
+      (λ (m : p + n ≤ r). ⊎-elim (λ (h : to < p + 16). inl (omega (arith, c .passed .inside)))
+      (λ (h : p + 16 ≤ to). absurd (f .none-before (p + o .at) (omega arith) (omega (arith, o .below)) (o .is))) (split to (p + 16)))
       (split r (p + n))) (c .next))
 
 -- what a test of one place says
@@ -169,7 +174,7 @@ module _ {P : ℕ → Type 0} {p n : ℕ} where
   pub all-lanes : {i first : ℕ} → n ≤ i → Lanes P p n i first → First P p (p + n) (p + first)
   all-lanes {i} {first} h l = record {
     inside = omega (arith, l .small);
-    behind = λ _. omega arith;
+    after = λ _. omega arith;
     here = λ m. l .here (omega arith);
     none-before = λ k m q y.
         let e : k ≡ p + (k - p) = omega arith in

@@ -26,12 +26,14 @@ same-list [] [] = inl refl
 same-list [] (y ∷ ys) = inr (λ e. let z : _≡_ {A = ℕ} 0 1 = cc in omega arith)
 same-list (x ∷ xs) [] = inr (λ e. let z : _≡_ {A = ℕ} 0 1 = cc in omega arith)
 same-list (x ∷ xs) (y ∷ ys) =
-    ⊎-elim (λ (h : eqb x y ≡ true). ⊎-elim (λ (t : xs ≡ ys). inl (let k : x ≡ y = eqb-true x y h in cc)) (λ (t : xs ≡ ys → ⊥). inr (λ e. t (cc))) (same-list xs ys))
+    ⊎-elim (λ (h : eqb x y ≡ true). ⊎-elim (λ (t : xs ≡ ys). inl (let k : x ≡ y = eqb-true x y h in cc)) (λ (t : xs ≡ ys → ⊥). inr (λ e. t (cc)))
+    (same-list xs ys))
     (λ (h : eqb x y ≡ false). inr (λ e. eqb-false x y h (cc))) (case (eqb x y))
 
 pub occurs-or-not : (s q : List ℕ) (e p : ℕ) → Occurs s q e p ⊎ (Occurs s q e p → ⊥)
 occurs-or-not s q e p =
     ⊎-elim (λ (h : ltb e (p + length q) ≡ true). inr (λ o. omega (arith, ltb-true e (p + length q) h, o .inside)))
-    (λ (h : ltb e (p + length q) ≡ false). ⊎-elim (λ (b : Stands s q p). inl record { inside = ltb-false e (p + length q) h; bytes = b }) (λ (b : Stands s q p → ⊥). inr (λ o. b (o .bytes)))
+    (λ (h : ltb e (p + length q) ≡ false). ⊎-elim (λ (b : Stands s q p). inl record { inside = ltb-false e (p + length q) h; bytes = b })
+    (λ (b : Stands s q p → ⊥). inr (λ o. b (o .bytes)))
     (same-list (take (length q) (drop p s)) q))
     (case (ltb e (p + length q)))

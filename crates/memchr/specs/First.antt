@@ -21,6 +21,6 @@ Both a b d s k = (getD s k 0 ≡ a) × (getD s (k + d) 0 ≡ b)
 -- r is the first place from `from` on and before `to` that is of the kind P, and `to` where there is none
 pub record First (P : ℕ → Type 0) (from to r : ℕ) : Type 0 where
   pub inside : r ≤ to
-  pub behind : r < to → from ≤ r
+  pub after : r < to → from ≤ r
   pub here : r < to → P r
   pub none-before : (k : ℕ) → from ≤ k → k < r → P k → ⊥

@@ -20,7 +20,8 @@ use Rattle.refusal.specs.declared.Refusal.the-variants.{LentTooShort}
 use Rattle.refusal.specs.declared.Answer.{Answer}
 use Rattle.refusal.specs.declared.Answer.the-variants.{Done, Refused}
 use Rattle.refusal.specs.Refusals.{refusalNumber, answerNumber}
-use Rattle.word_set.specs.Found.{Found, fitted, Whole}
+use Rattle.word_set.specs.Found.{Found, fitted}
+use Rattle.word_set.specs.Steps.{Whole}
 use Rattle.word_set.proofs.Sets.{below-or-not, set-same}
 use Rattle.word_set.proofs.Found.{found-refused, found-none, no-words, found-done, found-over, found-cleared, zeros-length}
 use Rattle.string_search.specs.Search.{Owns, searchFault}
@@ -40,24 +41,38 @@ either false k n m p q = q
 
 module _ (fault g : ℕ) (w : SearchWords) (l : Lists) where
   -- a number of the class is the outcome's, whether or not the name is looked for
-  early : (why : Refusal) → refusalNumber why ≡ orShort (orShort fault (length (w .strings)) (l .of-class)) (length (w .types)) (l .of-types) → refusalNumber why ≡ lentFault fault g w l
+  early : (why : Refusal) → refusalNumber why ≡ orShort (orShort fault (length (w .strings)) (l .of-class)) (length (w .types)) (l .of-types)
+      → refusalNumber why ≡ lentFault fault g w l
   unfolding lentFault
-  early why e = either (settles g (length (l .of-types))) (refusalNumber why) (orShort (orShort fault (length (w .strings)) (l .of-class)) (length (w .types)) (l .of-types)) (orShort (orShort (orShort fault (length (w .strings)) (l .of-class)) (length (w .types)) (l .of-types)) (length (w .strings)) (l .of-name)) e (short-fault (orShort (orShort fault (length (w .strings)) (l .of-class)) (length (w .types)) (l .of-types)) (length (w .strings)) (l .of-name) why e)
+  early why e =
+      either (settles g (length (l .of-types))) (refusalNumber why)
+      (orShort (orShort fault (length (w .strings)) (l .of-class)) (length (w .types)) (l .of-types))
+      (orShort (orShort (orShort fault (length (w .strings)) (l .of-class)) (length (w .types)) (l .of-types)) (length (w .strings)) (l .of-name)) e
+      (short-fault (orShort (orShort fault (length (w .strings)) (l .of-class)) (length (w .types)) (l .of-types)) (length (w .strings)) (l .of-name)
+      why e)
 
   pub faulty : (why : Refusal) → refusalNumber why ≡ fault → refusalNumber why ≡ lentFault fault g w l
-  faulty why e = early why (short-fault (orShort fault (length (w .strings)) (l .of-class)) (length (w .types)) (l .of-types) why (short-fault fault (length (w .strings)) (l .of-class) why e))
+  faulty why e =
+      early why (short-fault (orShort fault (length (w .strings)) (l .of-class)) (length (w .types)) (l .of-types) why
+      (short-fault fault (length (w .strings)) (l .of-class) why e))
 
   module _ (z : 0 ≡ fault) where
     pub first-short : (length (w .strings)) < length (l .of-class) → 4 ≡ lentFault fault g w l
-    first-short h = early LentTooShort (short-fault (orShort fault (length (w .strings)) (l .of-class)) (length (w .types)) (l .of-types) LentTooShort (short-four fault (length (w .strings)) (l .of-class) z h))
+    first-short h =
+        early LentTooShort (short-fault (orShort fault (length (w .strings)) (l .of-class)) (length (w .types)) (l .of-types) LentTooShort
+        (short-four fault (length (w .strings)) (l .of-class) z h))
 
     module _ (h : length (l .of-class) ≤ (length (w .strings))) where
       pub second-short : (length (w .types)) < length (l .of-types) → 4 ≡ lentFault fault g w l
-      second-short k = early LentTooShort (short-four (orShort fault (length (w .strings)) (l .of-class)) (length (w .types)) (l .of-types) (short-none fault (length (w .strings)) (l .of-class) z h) k)
+      second-short k =
+          early LentTooShort (short-four (orShort fault (length (w .strings)) (l .of-class)) (length (w .types)) (l .of-types)
+          (short-none fault (length (w .strings)) (l .of-class) z h) k)
 
       module _ (k : length (l .of-types) ≤ (length (w .types))) where
         both : 0 ≡ orShort (orShort fault (length (w .strings)) (l .of-class)) (length (w .types)) (l .of-types)
-        both = short-none (orShort fault (length (w .strings)) (l .of-class)) (length (w .types)) (l .of-types) (short-none fault (length (w .strings)) (l .of-class) z h) k
+        both =
+            short-none (orShort fault (length (w .strings)) (l .of-class)) (length (w .types)) (l .of-types)
+            (short-none fault (length (w .strings)) (l .of-class) z h) k
 
         pub settled-none : settles g (length (l .of-types)) ≡ true → 0 ≡ lentFault fault g w l
         unfolding lentFault
@@ -66,17 +81,22 @@ module _ (fault g : ℕ) (w : SearchWords) (l : Lists) where
         module _ (s : settles g (length (l .of-types)) ≡ false) where
           pub third-short : (length (w .strings)) < length (l .of-name) → 4 ≡ lentFault fault g w l
           unfolding lentFault
-          third-short m = rw s (short-four (orShort (orShort fault (length (w .strings)) (l .of-class)) (length (w .types)) (l .of-types)) (length (w .strings)) (l .of-name) both m)
+          third-short m =
+              rw s (short-four (orShort (orShort fault (length (w .strings)) (l .of-class)) (length (w .types)) (l .of-types)) (length (w .strings))
+              (l .of-name) both m)
 
           pub none-short : length (l .of-name) ≤ (length (w .strings)) → 0 ≡ lentFault fault g w l
           unfolding lentFault
-          none-short m = rw s (short-none (orShort (orShort fault (length (w .strings)) (l .of-class)) (length (w .types)) (l .of-types)) (length (w .strings)) (l .of-name) both m)
+          none-short m =
+              rw s (short-none (orShort (orShort fault (length (w .strings)) (l .of-class)) (length (w .types)) (l .of-types)) (length (w .strings))
+              (l .of-name) both m)
 
 -- a class that settles the result is given, and no type is found
 pub settled-by : (class types : ℕ) → settles class types ≡ true → (0 < class) × (types ≡ 0)
 settled-by class types e =
     ⊎-elim (λ (h : 0 < class). (h, eqb-true types 0 (settles-given class types h ∙ e)))
-    (λ (h : class ≤ 0). absurd (let q : false ≡ true = settles-absent class types h ∙ e in let z : _≡_ {A = ℕ} 0 1 = cc in omega arith)) (below-or-not 0 class)
+    (λ (h : class ≤ 0). absurd (let q : false ≡ true = settles-absent class types h ∙ e in let z : _≡_ {A = ℕ} 0 1 = cc in omega arith))
+    (below-or-not 0 class)
 
 -- what no shortage says
 short-fits : (fault room : ℕ) (xs : List ℕ) → 0 ≡ orShort fault room xs → length xs ≤ room
@@ -87,7 +107,8 @@ short-fits fault room xs e =
     (λ (h : length xs ≤ room). h) (below-or-not room (length xs))
 
 -- a set said in another way, and without a fault
-found-same : {P Q : ℕ → Type 0} {fault : ℕ} {r : Answer} {before after : List ℕ} → ((x : ℕ) → P x → Q x) → ((x : ℕ) → Q x → P x) → 0 ≡ fault → Found P 0 r before after → Found Q fault r before after
+found-same : {P Q : ℕ → Type 0} {fault : ℕ} {r : Answer} {before after : List ℕ} → ((x : ℕ) → P x → Q x) → ((x : ℕ) → Q x → P x) → 0 ≡ fault
+    → Found P 0 r before after → Found Q fault r before after
 found-same {P} {Q} {fault} {r} {before} {after} f g z w =
     subst (λ (k : ℕ). Found Q k r before after) z record { list = w .list; set = set-same f g (w .set); gives = w .gives }
 
@@ -95,14 +116,17 @@ found-same {P} {Q} {fault} {r} {before} {after} f g z w =
 done-fault : {P : ℕ → Type 0} {fault : ℕ} {before after : List ℕ} (n : ℕ) (r : Answer) → r ≡ Done n → Found P fault r before after → 0 ≡ fault
 done-fault {P} {fault} {before} n r e f =
     ⊎-elim (λ (z : eqb fault 0 ≡ true). sym (eqb-true fault 0 z))
-    (λ (z : eqb fault 0 ≡ false). let s : 0 ≡ fitted fault (length before) (f .list) .number = ap answerNumber (sym e) ∙ f .gives .number in rw z at s) (case (eqb fault 0))
+    (λ (z : eqb fault 0 ≡ false). let s : 0 ≡ fitted fault (length before) (f .list) .number = ap answerNumber (sym e) ∙ f .gives .number in
+    rw z at s) (case (eqb fault 0))
 
 -- the words of the result have no say in the fault
-same-lent : (fault g : ℕ) (strings types co out : List ℕ) (l : Lists) → lentFault fault g (searchWords strings types co) l ≡ lentFault fault g (searchWords strings types out) l
+same-lent : (fault g : ℕ) (strings types co out : List ℕ) (l : Lists)
+    → lentFault fault g (searchWords strings types co) l ≡ lentFault fault g (searchWords strings types out) l
 unfolding lentFault
 same-lent fault g strings types co out l = refl
 
-found-out : {P : ℕ → Type 0} {fault fault′ : ℕ} {r : Answer} {co out after : List ℕ} → fault ≡ fault′ → length co ≡ length out → Found P fault r co after → Found P fault′ r out after
+found-out : {P : ℕ → Type 0} {fault fault′ : ℕ} {r : Answer} {co out after : List ℕ} → fault ≡ fault′ → length co ≡ length out
+    → Found P fault r co after → Found P fault′ r out after
 found-out {P} {fault} {fault′} {r} {co} {out} {after} e l g =
     let w : Found P fault′ r co after = subst (λ (n : ℕ). Found P n r co after) e g in
     record {
@@ -123,7 +147,8 @@ module _ (k : Asked) where
   abbrev class : ℕ
   class = length (k .query .class)
 
-  pub exit-fault : (why : Refusal) → refusalNumber why ≡ askedFault k → {before after : SearchWords} → after .strings ≡ zeros (length (before .strings))
+  pub exit-fault : (why : Refusal) → refusalNumber why ≡ askedFault k → {before after : SearchWords}
+      → after .strings ≡ zeros (length (before .strings))
       → after .types ≡ zeros (length (before .types)) → after .methods ≡ zeros (length (before .methods)) → Searched k (Refused why) before after
   exit-fault why h {before} {after} zs zt zo = record {
     lists = listsOf k;
@@ -144,7 +169,8 @@ module _ (k : Asked) where
     fault = searchFault (length (k .area .file)) 0 class (k .area .keys)
 
     -- the type search found too few words
-    pub exit-class : (why : Refusal) → r ≡ Refused why → (out : List ℕ) → out ≡ zeros (length out) → Searched k (Refused LentTooShort) (searchWords strings types out) (searchWords cs′ ct′ out)
+    pub exit-class : (why : Refusal) → r ≡ Refused why → (out : List ℕ) → out ≡ zeros (length out)
+        → Searched k (Refused LentTooShort) (searchWords strings types out) (searchWords cs′ ct′ out)
     exit-class why h out zo =
         let t = types-found (k .types) (k .area) (k .query .class) in
         let p = owners-listed (k .area) (k .query .name) in
@@ -182,10 +208,12 @@ module _ (k : Asked) where
       lists-all = record { of-class = ts .strings; of-types = whole .list; of-name = owners-listed (k .area) (k .query .name) .list }
 
       -- a class that settles the result: no type was found, so no method fits
-      pub exit-settled : settles class t ≡ true → (out : List ℕ) → out ≡ zeros (length out) → Searched k (Done 0) (searchWords strings types out) (searchWords cs′ ct′ out)
+      pub exit-settled : settles class t ≡ true → (out : List ℕ) → out ≡ zeros (length out)
+          → Searched k (Done 0) (searchWords strings types out) (searchWords cs′ ct′ out)
       exit-settled y out zo =
           let g = settled-by class t y in
-          let none-found : (x : ℕ) → TypeFound (k .area) (k .query .class) (k .types) x → ⊥ = λ x f. let i = whole .set .complete x f in omega (arith, i .inside, whole .count, g .1) in
+          let none-found : (x : ℕ) → TypeFound (k .area) (k .query .class) (k .types) x → ⊥ =
+          λ x f. let i = whole .set .complete x f in omega (arith, i .inside, whole .count, g .1) in
           record {
             lists = lists-all;
             class-owners = ts .owners;
@@ -200,7 +228,8 @@ module _ (k : Asked) where
       module _ (y : settles class t ≡ false) {cs″ : List ℕ} {r′ : Answer}
           (f : Found (Owns (k .area) (k .query .name)) (searchFault (length (k .area .file)) 0 (length (k .query .name)) (k .area .keys)) r′ cs′ cs″) where
         -- the search for the name found too few words
-        pub exit-name : (why : Refusal) → r′ ≡ Refused why → (ct″ : List ℕ) → ct″ ≡ zeros (length ct′) → length ct′ ≡ length types → (out : List ℕ) → out ≡ zeros (length out)
+        pub exit-name : (why : Refusal) → r′ ≡ Refused why → (ct″ : List ℕ) → ct″ ≡ zeros (length ct′) → length ct′ ≡ length types → (out : List ℕ)
+            → out ≡ zeros (length out)
             → Searched k (Refused LentTooShort) (searchWords strings types out) (searchWords cs″ ct″ out)
         exit-name why h ct″ zt kept out zo =
             let p = owners-listed (k .area) (k .query .name) in
@@ -212,7 +241,8 @@ module _ (k : Asked) where
               class-types = whole .set;
               name-owners = p .set;
               found = found-refused (methods-listed k) LentTooShort _
-                  (third-short (askedFault k) class (searchWords strings types out) lists-all none enough types-few (rw (whole .count) y) (omega arith)) zo;
+                  (third-short (askedFault k) class (searchWords strings types out) lists-all none enough types-few (rw (whole .count) y)
+                  (omega arith)) zo;
               strings-cleared = found-cleared why r′ h f ∙ ap zeros same;
               types-cleared = zt ∙ ap zeros kept;
             }

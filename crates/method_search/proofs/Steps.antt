@@ -1,13 +1,12 @@
 -- The small steps: membership in a rising list, and the faults before the search.
 -- Assumes nothing.
-use Prim.Native.Nat.{ℕ, _+_, _≤_, _<_, max}
+use Prim.Native.Nat.{ℕ, _≤_, _<_, max}
 use native.Mathlib.Omega.{arith}
 use mathlib.Core.Path.{_≡_, sym, subst, _∙_}
-use mathlib.Core.Bool.{Bool, true, false, cond}
+use mathlib.Core.Bool.{Bool, true, false}
 use mathlib.Core.Logic.{⊎-elim}
 use mathlib.Core.List.{List}
-use lib.ListN.{length}
-use lib.Dec.{eqb, ltb}
+use lib.Dec.{eqb}
 use borrow.Author.Tests.{lt-ltb, le-ltb, eqb-true, eqb-false}
 use Rattle.words.proofs.Shared.{case}
 use Rattle.dalvik.specs.Ids.{methodIdSize}
@@ -21,7 +20,7 @@ use Rattle.words.specs.Rising.{Rising}
 use Rattle.word_set.specs.Sets.{Contains}
 use Rattle.word_set.proofs.Sets.{is-in, not-in}
 use Rattle.refusal.proofs.Numbers.{numbered}
-use Rattle.word_set.specs.Decides.{Decides}
+use Rattle.word_set.specs.Steps.{Decides}
 use Rattle.string_search.specs.Search.{searchFault}
 use Rattle.string_search.proofs.Faults.{no-fault, fault-none}
 use Rattle.method_search.specs.Steps.{Among}

@@ -38,7 +38,8 @@ searchFor w q ts ms = record { area = w; query = q; types = ts; methods = ms }
 pub record MethodFound (k : Asked) (x : ℕ) : Type 0 where
   pub below : x < k .methods .size
   pub given : 0 < length (k .query .class) + length (k .query .name)
-  pub of-class : 0 < length (k .query .class) → TypeFound (k .area) (k .query .class) (k .types) (method-class-idx (k .area .file) (k .methods .off) x)
+  pub of-class : 0 < length (k .query .class)
+      → TypeFound (k .area) (k .query .class) (k .types) (method-class-idx (k .area .file) (k .methods .off) x)
   pub of-name : 0 < length (k .query .name) → Owns (k .area) (k .query .name) (method-name-idx (k .area .file) (k .methods .off) x)
 
 -- the first fault but for the lent words, of a class of c and a name of n bytes: those of a search for the longer of the two, and then

@@ -7,13 +7,13 @@ use tinydex::Table;
 use word_set::Fault;
 use word_set::Insertion;
 ghost use mathlib.Core.Path.{_≡_};
-ghost use Prim.Native.Nat.{_≤_, max};
+ghost use Prim.Native.Nat.{max};
 ghost use lib.ListN.{length, take};
 ghost use Rattle.words.specs.Padded.{zeros};
 ghost use Rattle.words.specs.Rising.{Rising};
 ghost use Rattle.groups.specs.Built.{groupWords};
-ghost use Rattle.word_set.specs.Decides.{Decides};
-ghost use Rattle.word_set.specs.Found.{Found, Matched, faultNumber};
+ghost use Rattle.word_set.specs.Found.{Found, faultNumber};
+ghost use Rattle.word_set.specs.Steps.{Decides, Matched};
 ghost use Rattle.string_search.specs.Search.{area, Owns, searchFault};
 ghost use Rattle.method_search.specs.Methods.{query, searchFor, searchWords, Searched, methodFault, settles};
 ghost use Rattle.method_search.specs.Steps.{Begun, Among, sieve, Fits, Fitting, askedCount, Risen, Stepped, Chosen, Selected};
@@ -27,7 +27,10 @@ fn longer(a: usize, b: usize) -> usize
 
 // What speaks against the search before it begins.
 fn method_fault(file: &[u8], methods: Table, keys: &[u64], class: &[u8], name: &[u8]) -> Fault
-    ensures { λ r. ⌜ faultNumber r ≡ methodFault (length (now (file .entry))) methods (length (now (class .entry))) (length (now (name .entry))) (now (keys .entry)) ⌝ }
+    ensures { λ r.
+        let class-bytes = length (now (class .entry)) in
+        let name-bytes = length (now (name .entry)) in
+        ⌜ faultNumber r ≡ methodFault (length (now (file .entry))) methods class-bytes name-bytes (now (keys .entry)) ⌝ }
 {
     let fault = string_search::search_fault(file, 0, longer(class.len(), name.len()), keys);
     if let Fault::Refused(why) = fault {
@@ -177,7 +180,9 @@ fn select(
 ) -> Answer
     requires { ⌜ Chosen t n (searchWords (now «of_name») (now «of_class») (now out)) ⌝ }
     ensures { λ r.
-        let fits = sieve (now (file .entry)) (methods .off) «by_class» (take t (now («of_class» .entry))) «by_name» (take n (now («of_name» .entry))) in
+        let types = take t (now («of_class» .entry)) in
+        let names = take n (now («of_name» .entry)) in
+        let fits = sieve (now (file .entry)) (methods .off) «by_class» types «by_name» names in
         let before = searchWords (now («of_name» .entry)) (now («of_class» .entry)) (now (out .entry)) in
         let after = searchWords (now («of_name» .exit)) (now («of_class» .exit)) (now (out .exit)) in
         ⌜ Selected fits (methods .size) r before after ⌝ }

@@ -20,7 +20,7 @@ use Rattle.refusal.specs.Refusals.{refusalNumber, largestFile, tooLarge}
 use Rattle.word_set.proofs.Sets.{below-or-not}
 use Rattle.refusal.proofs.Numbers.{numbered}
 use Rattle.string_data.specs.Text.{Found, none, found, stringText, stretchOf}
-use Rattle.word_set.specs.Decides.{Decides}
+use Rattle.word_set.specs.Steps.{Decides}
 use Rattle.name_filter.specs.HasName.{isAscii, HasName}
 use Rattle.name_filter.proofs.HasName.{has-empty-of}
 use Rattle.name_filter.specs.Steps.{Judged}
@@ -73,14 +73,20 @@ judged-at {s} {q} {f} {f′} {r} e j = subst (λ (g : Found). Judged s q g r) e 
 -- a text that was found
 module _ (s q : List ℕ) (a n : ℕ) where
   pub judged-empty : length q < 1 → Judged s q (found a n) (v.Known true)
-  judged-empty h = judged-known s q (found a n) true (text-any s (ltb 0 (length q)) (found a n) a n refl (le-ltb 0 (length q) (omega arith))) record { yes = λ e. has-empty-of (stretchOf s (found a n)) q (omega arith); no = λ e. absurd (let z : _≡_ {A = ℕ} 0 1 = cc in omega arith) }
+  judged-empty h =
+      judged-known s q (found a n) true (text-any s (ltb 0 (length q)) (found a n) a n refl (le-ltb 0 (length q) (omega arith))) record
+      { yes = λ e. has-empty-of (stretchOf s (found a n)) q (omega arith); no = λ e. absurd (let z : _≡_ {A = ℕ} 0 1 = cc in omega arith) }
 
   module _ (text : List ℕ) (t : text ≡ stretchOf s (found a n)) where
     pub judged-ascii : (b : Bool) → isAscii text ≡ true → Decides (HasName text q) b → Judged s q (found a n) (v.Known b)
-    judged-ascii b g d = judged-known s q (found a n) b (text-ascii s (ltb 0 (length q)) (found a n) a n refl (sym (ap isAscii t) ∙ g)) (subst (λ (l : List ℕ). Decides (HasName l q) b) t d)
+    judged-ascii b g d =
+        judged-known s q (found a n) b (text-ascii s (ltb 0 (length q)) (found a n) a n refl (sym (ap isAscii t) ∙ g))
+        (subst (λ (l : List ℕ). Decides (HasName l q) b) t d)
 
     pub judged-other : 1 ≤ length q → isAscii text ≡ false → Judged s q (found a n) (v.Refused NotAscii)
-    judged-other h g = judged-refused s q (found a n) NotAscii (text-not-ascii s (ltb 0 (length q)) (found a n) a n refl (lt-ltb 0 (length q) (omega arith)) (sym (ap isAscii t) ∙ g))
+    judged-other h g =
+        judged-refused s q (found a n) NotAscii
+        (text-not-ascii s (ltb 0 (length q)) (found a n) a n refl (lt-ltb 0 (length q) (omega arith)) (sym (ap isAscii t) ∙ g))
 
 -- the given indices, from the i-th on
 module _ (s : List ℕ) (count table : ℕ) (asked : Bool) (given : List ℕ) (i : ℕ) where
@@ -93,7 +99,8 @@ module _ (s : List ℕ) (count table : ℕ) (asked : Bool) (given : List ℕ) (i
     unfolding firstFault
     fault-index k = rw (drop-cons given i 0 h, le-ltb (getD given i 0) count k)
 
-    pub fault-text : getD given i 0 < count → (why : Refusal) → refusalNumber why ≡ textFault s asked (stringText s (string-data-off s table (getD given i 0)))
+    pub fault-text : getD given i 0 < count → (why : Refusal)
+        → refusalNumber why ≡ textFault s asked (stringText s (string-data-off s table (getD given i 0)))
         → refusalNumber why ≡ firstFault s count table asked (drop i given)
     unfolding firstFault
     fault-text k why e = rw (drop-cons given i 0 h, lt-ltb (getD given i 0) count k, ← e, numbered why)
@@ -140,8 +147,10 @@ pub record Sound (s : List ℕ) : Type 0 where
 pub no-fault : (s q : List ℕ) → 0 ≡ headFault s q → Sound s
 no-fault s q e =
     ⊎-elim (λ (l : tooLarge (length s) ≡ true). absurd (let f = head-large s q l in let z : _≡_ {A = ℕ} 0 1 = cc in omega arith))
-    (λ (l : tooLarge (length s) ≡ false). ⊎-elim (λ (h : length s < 0x70). absurd (let f = head-short s q l h in let z : _≡_ {A = ℕ} 0 3 = cc in omega arith))
-    (λ (h : 0x70 ≤ length s). ⊎-elim (λ (k : length s < item (le32 s 0x3c) stringIdSize (le32 s 0x38)). absurd (let f = head-table s q l k in let z : _≡_ {A = ℕ} 0 3 = cc in omega arith))
+    (λ (l : tooLarge (length s) ≡ false). ⊎-elim
+    (λ (h : length s < 0x70). absurd (let f = head-short s q l h in let z : _≡_ {A = ℕ} 0 3 = cc in omega arith))
+    (λ (h : 0x70 ≤ length s). ⊎-elim (λ (k : length s < item (le32 s 0x3c) stringIdSize (le32 s 0x38)). absurd
+    (let f = head-table s q l k in let z : _≡_ {A = ℕ} 0 3 = cc in omega arith))
     (λ (k : item (le32 s 0x3c) stringIdSize (le32 s 0x38) ≤ length s). record { small = ltb-false largestFile (length s) l; header = h; ids = k })
     (below-or-not (length s) (item (le32 s 0x3c) stringIdSize (le32 s 0x38))))
     (below-or-not (length s) 0x70))
@@ -158,7 +167,8 @@ module _ (s q given : List ℕ) where
   filter-first e = rw (← e)
 
 -- the header's words as the code has them
-pub filter-known : (s q given : List ℕ) (count table : ℕ) → count ≡ le32 s 0x38 → table ≡ le32 s 0x3c → 0 ≡ headFault s q → firstFault s count table (ltb 0 (length q)) given ≡ filterFault s q given
+pub filter-known : (s q given : List ℕ) (count table : ℕ) → count ≡ le32 s 0x38 → table ≡ le32 s 0x3c → 0 ≡ headFault s q
+    → firstFault s count table (ltb 0 (length q)) given ≡ filterFault s q given
 filter-known s q given count table c t e = rw (c, t) (filter-first s q given e)
 
 pub ids-known : (s : List ℕ) (count table : ℕ) → count ≡ le32 s 0x38 → table ≡ le32 s 0x3c → Sound s → item table stringIdSize count ≤ length s

@@ -17,13 +17,17 @@ given-listed {D} tell (i ∷ is) =
     ⊎-elim (λ (d : D i). let w = set-with i l in
     record {
       list = w .list;
-      set = set-same (λ x m. ⊎-elim (λ (e : x ≡ i). subst (λ (y : ℕ). In y (i ∷ is) × D y) (sym e) (in-here i is, d)) (λ (n : In x is × D x). (in-cons i (n .0), n .1)) m)
+      set =
+          set-same (λ x m. ⊎-elim (λ (e : x ≡ i). subst (λ (y : ℕ). In y (i ∷ is) × D y) (sym e) (in-here i is, d))
+          (λ (n : In x is × D x). (in-cons i (n .0), n .1)) m)
           (λ x m. ⊎-elim (λ (e : x ≡ i). inl e) (λ (n : In x is). inr (n, m .1)) (in-cases (m .0)))
           (w .set);
     })
     (λ (d : D i → ⊥). record {
       list = l .list;
-      set = set-same (λ x m. (in-cons i (m .0), m .1)) (λ x m. ⊎-elim (λ (e : x ≡ i). absurd (d (subst D e (m .1)))) (λ (n : In x is). (n, m .1)) (in-cases (m .0))) (l .set);
+      set =
+          set-same (λ x m. (in-cons i (m .0), m .1))
+          (λ x m. ⊎-elim (λ (e : x ≡ i). absurd (d (subst D e (m .1)))) (λ (n : In x is). (n, m .1)) (in-cases (m .0))) (l .set);
     })
     (tell i)
 

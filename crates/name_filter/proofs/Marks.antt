@@ -22,13 +22,11 @@ use Rattle.word_set.proofs.Sets.{below-or-not}
 use Rattle.index_set.specs.Bits.{isHeld, Adds}
 use Rattle.word_set.specs.declared.Fault.{Fault}
 use Rattle.word_set.specs.declared.Fault.the-variants as fault
-use Rattle.word_set.specs.Decides.{Decides}
+use Rattle.word_set.specs.Steps.{Decides}
 use Rattle.word_set.specs.Found.{faultNumber}
-use Rattle.name_filter.specs.HasName.{HasName}
 use Rattle.name_filter.specs.Faults.{firstFault}
 use Rattle.name_filter.proofs.Faults.{fault-end, fault-index, fault-text, fault-next}
 use Rattle.name_filter.specs.Steps.{Names, faultOf, HasNameAt, Noted, Room, Marks, Looked, Unmarked, Seen, AllLooked}
-use Rattle.name_filter.specs.Names.{nameText}
 
 pub nonzero : (why : Refusal) → refusalNumber why ≡ 0 → ⊥
 nonzero why z = eqb-false (refusalNumber why) 0 (numbered why) z
@@ -90,14 +88,16 @@ module _ {k : Names} where
       seen-there y f = n .seen-at y ∙ ap (λ (c : Bool). isHeld seen y || c) f ∙ or-false (isHeld seen y)
 
       has-there : (y : ℕ) → eqb y x ≡ false → isHeld has′ y ≡ isHeld has y
-      has-there y f = n .has-at y ∙ ap (λ (c : Bool). isHeld has y || (b && c)) f ∙ ap (λ (c : Bool). isHeld has y || c) (and-false b) ∙ or-false (isHeld has y)
+      has-there y f =
+          n .has-at y ∙ ap (λ (c : Bool). isHeld has y || (b && c)) f ∙ ap (λ (c : Bool). isHeld has y || c) (and-false b) ∙ or-false (isHeld has y)
 
       marks-now : Marks k seen′ has′
       marks-now = record {
         good = λ y h. ⊎-elim (λ (f : eqb y x ≡ true). subst (λ (z : ℕ). 0 ≡ faultOf k z) (sym (eqb-true y x f)) e)
             (λ (f : eqb y x ≡ false). t .good y (sym (seen-there y f) ∙ h)) (case (eqb y x));
         says = λ y h. ⊎-elim
-            (λ (f : eqb y x ≡ true). subst (λ (z : ℕ). Decides (HasNameAt k z) (isHeld has′ z)) (sym (eqb-true y x f)) (subst (Decides (HasNameAt k x)) (sym has-here) d))
+            (λ (f : eqb y x ≡ true). subst (λ (z : ℕ). Decides (HasNameAt k z) (isHeld has′ z)) (sym (eqb-true y x f))
+            (subst (Decides (HasNameAt k x)) (sym has-here) d))
             (λ (f : eqb y x ≡ false). subst (Decides (HasNameAt k y)) (sym (has-there y f)) (t .says y (sym (seen-there y f) ∙ h))) (case (eqb y x));
         among = λ y h. ⊎-elim (λ (f : eqb y x ≡ true). subst (λ (z : ℕ). isHeld seen′ z ≡ true) (sym (eqb-true y x f)) seen-here)
             (λ (f : eqb y x ≡ false). seen-there y f ∙ t .among y (sym (has-there y f) ∙ h)) (case (eqb y x));
@@ -109,15 +109,18 @@ module _ {k : Names} where
         marks = marks-now;
         now-seen = λ z. seen-here;
         kept = λ y h. n .seen-at y ∙ rw h;
-        only = λ y h. ⊎-elim (λ (f : eqb y x ≡ true). inr (eqb-true y x f)) (λ (f : eqb y x ≡ false). inl (sym (seen-there y f) ∙ h)) (case (eqb y x));
+        only =
+            λ y h. ⊎-elim (λ (f : eqb y x ≡ true). inr (eqb-true y x f)) (λ (f : eqb y x ≡ false). inl (sym (seen-there y f) ∙ h)) (case (eqb y x));
       }
 
 -- the given indices, one after another: the ways out
 module _ {k : Names} (count : ℕ) (given : List ℕ) {seen has : List ℕ} where
-  all-refused : (why : Refusal) → refusalNumber why ≡ firstFault (k .file) count (k .table) (ltb 0 (length (k .query))) given → Marks k seen has → AllLooked k count given seen has (fault.Refused why)
+  all-refused : (why : Refusal) → refusalNumber why ≡ firstFault (k .file) count (k .table) (ltb 0 (length (k .query))) given → Marks k seen has
+      → AllLooked k count given seen has (fault.Refused why)
   all-refused why e t = record { fault = e; marks = t; seen-all = λ z. absurd (nonzero why z) }
 
-  all-none : (i : ℕ) → 0 ≡ firstFault (k .file) count (k .table) (ltb 0 (length (k .query))) given → Marks k seen has → Seen given seen i → length given ≤ i → AllLooked k count given seen has fault.Nothing
+  all-none : (i : ℕ) → 0 ≡ firstFault (k .file) count (k .table) (ltb 0 (length (k .query))) given → Marks k seen has → Seen given seen i
+      → length given ≤ i → AllLooked k count given seen has fault.Nothing
   all-none i e t n h = record { fault = e; marks = t; seen-all = λ z. record { all = λ j l. n .all j (omega arith); only = n .only } }
 
 -- .. and one step
@@ -129,7 +132,9 @@ module _ {n : Names} (given : List ℕ) (i : ℕ) {seen seen′ has′ : List �
   seen-next z sn = record {
     all = λ j l. ⊎-elim (λ (a : j < i). k .kept _ (sn .all j a))
         (λ (a : i ≤ j). let e : i ≡ j = omega arith in subst (λ (n : ℕ). isHeld seen′ (getD given n 0) ≡ true) e (k .now-seen z)) (below-or-not j i);
-    only = λ x l. ⊎-elim (λ (a : isHeld seen x ≡ true). sn .only x a) (λ (e : x ≡ getD given i 0). subst (λ (y : ℕ). In y given) (sym e) record { at = i; inside = h; is = refl }) (k .only x l);
+    only =
+        λ x l. ⊎-elim (λ (a : isHeld seen x ≡ true). sn .only x a)
+        (λ (e : x ≡ getD given i 0). subst (λ (y : ℕ). In y given) (sym e) record { at = i; inside = h; is = refl }) (k .only x l);
   }
 
 -- the two sets
@@ -142,14 +147,17 @@ bits s h = record { seen = s; has = h }
 
 -- the indices before the i-th
 pub record Passed (k : Names) (count : ℕ) (given : List ℕ) (before after : Bits) (i : ℕ) : Type 0 where
-  pub rest : firstFault (k .file) count (k .table) (ltb 0 (length (k .query))) (drop i given) ≡ firstFault (k .file) count (k .table) (ltb 0 (length (k .query))) given
+  pub rest :
+      firstFault (k .file) count (k .table) (ltb 0 (length (k .query))) (drop i given) ≡ firstFault (k .file) count (k .table)
+      (ltb 0 (length (k .query))) given
   pub inside : i ≤ length given
   pub marks : Marks k (after .seen) (after .has)
   pub seen-so-far : Seen given (after .seen) i
   pub long-seen : length (after .seen) ≡ length (before .seen)
   pub long-has : length (after .has) ≡ length (before .has)
 
-pub passed-none : {k : Names} {count : ℕ} (given : List ℕ) {seen has : List ℕ} → Unmarked count seen has → Passed k count given (bits seen has) (bits seen has) 0
+pub passed-none : {k : Names} {count : ℕ} (given : List ℕ) {seen has : List ℕ} → Unmarked count seen has
+    → Passed k count given (bits seen has) (bits seen has) 0
 passed-none given u = record {
   rest = refl;
   inside = omega arith;
@@ -161,17 +169,23 @@ passed-none given u = record {
 
 module _ {k : Names} {count : ℕ} {given seen has : List ℕ} {before : Bits} {i : ℕ} (p : Passed k count given before (bits seen has) i) where
   pub passed-all : length given ≤ i → AllLooked k count given seen has fault.Nothing
-  passed-all h = all-none count given i (fault-end (k .file) count (k .table) (ltb 0 (length (k .query))) given i h ∙ p .rest) (p .marks) (p .seen-so-far) h
+  passed-all h =
+      all-none count given i (fault-end (k .file) count (k .table) (ltb 0 (length (k .query))) given i h ∙ p .rest) (p .marks) (p .seen-so-far) h
 
   module _ (h : i < length given) where
     pub passed-index : count ≤ getD given i 0 → AllLooked k count given seen has (fault.Refused StringIndex)
-    passed-index l = all-refused count given StringIndex (fault-index (k .file) count (k .table) (ltb 0 (length (k .query))) given i h l ∙ p .rest) (p .marks)
+    passed-index l =
+        all-refused count given StringIndex (fault-index (k .file) count (k .table) (ltb 0 (length (k .query))) given i h l ∙ p .rest) (p .marks)
 
     module _ (l : getD given i 0 < count) {seen′ has′ : List ℕ} {r : Fault} (look : Looked k (getD given i 0) seen seen′ has′ r) where
       pub passed-fault : (why : Refusal) → r ≡ fault.Refused why → AllLooked k count given seen′ has′ (fault.Refused why)
-      passed-fault why e = all-refused count given why (fault-text (k .file) count (k .table) (ltb 0 (length (k .query))) given i h l why (sym (ap faultNumber e) ∙ look .fault) ∙ p .rest) (look .marks)
+      passed-fault why e =
+          all-refused count given why
+          (fault-text (k .file) count (k .table) (ltb 0 (length (k .query))) given i h l why (sym (ap faultNumber e) ∙ look .fault) ∙ p .rest)
+          (look .marks)
 
-      pub passed-next : r ≡ fault.Nothing → length seen′ ≡ length seen → length has′ ≡ length has → Passed k count given before (bits seen′ has′) (i + 1)
+      pub passed-next : r ≡ fault.Nothing → length seen′ ≡ length seen → length has′ ≡ length has
+          → Passed k count given before (bits seen′ has′) (i + 1)
       passed-next e a b = record {
         rest = sym (fault-next (k .file) count (k .table) (ltb 0 (length (k .query))) given i h l (sym (ap faultNumber e) ∙ look .fault)) ∙ p .rest;
         inside = omega arith;

@@ -2,18 +2,17 @@
 -- Assumes nothing.
 use Prim.Native.Nat.{ℕ, _*_, _≤_}
 use native.Mathlib.Omega.{arith}
-use mathlib.Core.Path.{_≡_, refl, ap, sym, subst, _∙_}
+use mathlib.Core.Path.{_≡_, refl, sym, subst, _∙_}
 use mathlib.Core.Bool.{true, false}
 use mathlib.Core.Logic.{⊎-elim}
 use mathlib.Core.List.{List}
-use lib.ListN.{length, getD, length-replicate}
-use lib.Dec.{ltb}
+use lib.ListN.{length, length-replicate}
 use Rattle.words.specs.Padded.{zeros}
 use Rattle.words.proofs.Shared.{case}
 use Rattle.refusal.specs.declared.Refusal.the-variants.{LentTooShort}
 use Rattle.refusal.specs.declared.Answer.the-variants as answer
-use Rattle.word_set.specs.Sets.{In, Joins}
-use Rattle.word_set.specs.Found.{Whole, Matched, all, over}
+use Rattle.word_set.specs.Sets.{Joins}
+use Rattle.word_set.specs.Steps.{Whole, Matched, all, over}
 use Rattle.word_set.specs.declared.Insertion.{Insertion}
 use Rattle.word_set.specs.declared.Insertion.the-variants.{Held, Full}
 use Rattle.word_set.proofs.Found.{matched-same}
@@ -32,7 +31,7 @@ begun n l m c =
     let e : length (zeros n) ≡ n = length-replicate n 0 in
     record {
       unmarked = record {
-        room = record { for-seen = omega (arith, c .few); for-has = omega (arith, c .few) };
+        room = record { for-seen = omega (arith, c .within); for-has = omega (arith, c .within) };
         none-seen = held-zeros n;
         none-has = held-zeros n;
       };
@@ -60,7 +59,9 @@ module _ {k : Names} {count : ℕ} {given seen has : List ℕ} {r : Fault} (a : 
     sift-done n e = go named
       where
         go : Matched (Named (k .file) (k .table) (k .query) given) out after g → SiftedOf k count given out after (answer.Done n)
-        go (all j f w) = let i : j ≡ n = cc in done n refl (sym z ∙ a .fault) (subst (λ (m : ℕ). Whole (Named (k .file) (k .table) (k .query) given) m out after) i w)
+        go (all j f w) =
+            let i : j ≡ n = cc in done n refl (sym z ∙ a .fault)
+            (subst (λ (m : ℕ). Whole (Named (k .file) (k .table) (k .query) given) m out after) i w)
         go (over f more) = absurd (let y : _≡_ {A = ℕ} 0 1 = cc in omega arith)
 
     pub sift-short : g ≡ Full → SiftedOf k count given out after (answer.Refused LentTooShort)

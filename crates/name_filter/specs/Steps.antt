@@ -16,8 +16,8 @@ use Rattle.refusal.specs.declared.Answer.the-variants as answer
 use Rattle.refusal.specs.Refusals.{refusalNumber}
 use Rattle.string_data.specs.Text.{Found, stringText, stretchOf}
 use Rattle.word_set.specs.Sets.{In, SetOf}
-use Rattle.word_set.specs.Decides.{Decides}
-use Rattle.word_set.specs.Found.{Whole, faultNumber}
+use Rattle.word_set.specs.Found.{faultNumber}
+use Rattle.word_set.specs.Steps.{Decides, Whole}
 use Rattle.word_set.specs.declared.Fault.{Fault}
 use Rattle.index_set.specs.Bits.{isHeld}
 use Rattle.memchr.specs.First.{Is}
@@ -101,9 +101,19 @@ pub record Begun (count : ℕ) (seen has out : List ℕ) : Type 0 where
   pub small : length has ≤ 67108864
   pub clear : out ≡ zeros (length out)
 
--- at most `most` strings
-pub record Counted (most count : ℕ) (out : List ℕ) : Type 0 where
-  pub few : count ≤ most
+-- how many strings the sets of each size have a bit for
+abbrev pub few : ℕ
+few = 4096
+
+abbrev pub some : ℕ
+some = 131072
+
+abbrev pub most : ℕ
+most = 4194304
+
+-- at most n strings
+pub record Counted (n count : ℕ) (out : List ℕ) : Type 0 where
+  pub within : count ≤ n
   pub clear : out ≡ zeros (length out)
 
 -- the set, more than the words lent, or the first fault
@@ -114,7 +124,8 @@ pub data Sifted (P : ℕ → Type 0) (number : ℕ) (before after : List ℕ) (r
 
 -- .. of the given indices
 abbrev pub SiftedOf : Names → ℕ → List ℕ → List ℕ → List ℕ → Answer → Type 0
-SiftedOf k count given before after r = Sifted (Named (k .file) (k .table) (k .query) given) (firstFault (k .file) count (k .table) (ltb 0 (length (k .query))) given) before after r
+SiftedOf k count given before after r =
+    Sifted (Named (k .file) (k .table) (k .query) given) (firstFault (k .file) count (k .table) (ltb 0 (length (k .query))) given) before after r
 
 pub record Refuses (why : Refusal) (before after : List ℕ) (r : Answer) : Type 0 where
   pub answer-is : r ≡ answer.Refused why

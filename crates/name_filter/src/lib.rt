@@ -16,7 +16,8 @@ ghost use Rattle.dalvik.specs.Ids.{string-data-off as dataOff};
 ghost use Rattle.word_set.specs.Found.{Found};
 ghost use Rattle.name_filter.specs.Faults.{filterFault};
 ghost use Rattle.name_filter.specs.Names.{Named};
-ghost use Rattle.name_filter.specs.Steps.{names, Noted, Room, Looking, Looked, Unmarked, AllLooked, Begun, Counted, SiftedOf, Refuses};
+ghost use Rattle.name_filter.specs.Steps.{names, Noted, Room, Looking, Looked, Unmarked, AllLooked, Begun};
+ghost use Rattle.name_filter.specs.Steps.{few, some, most, Counted, SiftedOf, Refuses};
 
 // The data offset of a string.
 fn data_offset(file: &[u8], table: u32, index: u32) -> usize
@@ -118,6 +119,12 @@ fn sift(
     Answer::Done(n)
 }
 
+// How many strings a set of 64 words has a bit for.
+const FEW: u32 = 4096;
+
+// .. and one of 2,048 words.
+const SOME: u32 = 131072;
+
 // Sets for few strings.
 fn sift_few(
     file: &[u8],
@@ -127,7 +134,7 @@ fn sift_few(
     given: &[u32],
     out: &mut [u32],
 ) -> Answer
-    requires { ⌜ Counted 4096 count (now out) ⌝ }
+    requires { ⌜ Counted few count (now out) ⌝ }
     ensures { λ r.
         let of = names (now (file .entry)) table (now (query .entry)) in
         ⌜ SiftedOf of count (now (given .entry)) (now (out .entry)) (now (out .exit)) r ⌝ }
@@ -146,7 +153,7 @@ fn sift_some(
     given: &[u32],
     out: &mut [u32],
 ) -> Answer
-    requires { ⌜ Counted 131072 count (now out) ⌝ }
+    requires { ⌜ Counted some count (now out) ⌝ }
     ensures { λ r.
         let of = names (now (file .entry)) table (now (query .entry)) in
         ⌜ SiftedOf of count (now (given .entry)) (now (out .entry)) (now (out .exit)) r ⌝ }
@@ -165,7 +172,7 @@ fn sift_many(
     given: &[u32],
     out: &mut [u32],
 ) -> Answer
-    requires { ⌜ Counted 4194304 count (now out) ⌝ }
+    requires { ⌜ Counted most count (now out) ⌝ }
     ensures { λ r.
         let of = names (now (file .entry)) table (now (query .entry)) in
         ⌜ SiftedOf of count (now (given .entry)) (now (out .entry)) (now (out .exit)) r ⌝ }
@@ -184,15 +191,15 @@ fn sift_all(
     given: &[u32],
     out: &mut [u32],
 ) -> Answer
-    requires { ⌜ Counted 4194304 count (now out) ⌝ }
+    requires { ⌜ Counted most count (now out) ⌝ }
     ensures { λ r.
         let of = names (now (file .entry)) table (now (query .entry)) in
         ⌜ SiftedOf of count (now (given .entry)) (now (out .entry)) (now (out .exit)) r ⌝ }
 {
-    if count <= 4096 {
+    if count <= FEW {
         return sift_few(file, count, table, query, given, out);
     }
-    if count <= 131072 {
+    if count <= SOME {
         return sift_some(file, count, table, query, given, out);
     }
     sift_many(file, count, table, query, given, out)

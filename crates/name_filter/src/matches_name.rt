@@ -5,7 +5,7 @@ ghost use mathlib.Core.List.{map};
 ghost use Prim.Native.Nat.{_+_, _≤_};
 ghost use lib.ListN.{length};
 ghost use Rattle.memchr.specs.Occurs.{Stands};
-ghost use Rattle.word_set.specs.Decides.{Decides};
+ghost use Rattle.word_set.specs.Steps.{Decides};
 ghost use Rattle.name_filter.specs.Steps.{Capital};
 ghost use Rattle.name_filter.specs.HasName.{lowerCase, isAscii, HasName};
 

@@ -5,7 +5,7 @@ use refusal::Refusal;
 use string_data::StringText;
 use word_set::Fault;
 ghost use mathlib.Core.Path.{_≡_};
-ghost use Prim.Native.Nat.{_+_, _≤_, _<_};
+ghost use Prim.Native.Nat.{_+_, _<_};
 ghost use lib.ListN.{length};
 ghost use Rattle.string_data.specs.Text.{stringText, found};
 ghost use Rattle.word_set.specs.Found.{faultNumber};

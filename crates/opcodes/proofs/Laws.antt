@@ -1,14 +1,11 @@
 -- What callers use of a length: it is the definition's number of units, more than none and fewer than six.
 -- Assumes nothing.
-use Prim.Native.Nat.{ℕ, zero, suc, _<_, _≤_}
+use Prim.Native.Nat.{ℕ, zero, suc, _<_}
 use native.Mathlib.Omega.{arith}
 use mathlib.Core.Path.{_≡_, refl}
-use mathlib.Core.Bool.{Bool, true, false, cond}
-use lib.Dec.{eqb}
 use borrow.Author.Tests.{ne-eqb}
 use Rattle.words.proofs.Shared.{cond-elim}
 use Rattle.opcodes.specs.Length.{unitsOf, asLength, lengthRead, within, ofOne, ofTwo, ofThree, ofFour, ofFive}
-use Rattle.opcodes.specs.declared.Length.{Length}
 use Rattle.opcodes.specs.declared.Length.the-variants.{Units, Nothing}
 
 pub units-small : (op : ℕ) → unitsOf op < 6

@@ -20,8 +20,7 @@ use Rattle.refusal.proofs.Outcomes.{gives-refused}
 use Rattle.refusal.proofs.Numbers.{numbered}
 use Rattle.refs_program.specs.Text.{entryOut}
 use Rattle.refs_program.specs.Line.{Entries, lineBy, lineOut, alike, lineAt, firstRefused, triedOut}
-use Rattle.refs_program.specs.Steps.{LineWords, GivesLine, Tries}
-use Rattle.refs_program.specs.Steps.{RefusedBy}
+use Rattle.refs_program.specs.Steps.{LineWords, GivesLine, Tries, RefusedBy}
 
 pub gives-as : {o : Outcome} {r x : Answer} {before after : List ℕ} → r ≡ x → Gives o r before after → Gives o x before after
 gives-as e g = rw (← e) g
@@ -35,7 +34,8 @@ module _ (o : Outcome) (before after : List ℕ) where
   pub done-fits : (n : ℕ) → Gives o (Done n) before after → n ≤ length after
   unfolding padded
   done-fits n g =
-      let l : length after ≡ length (o .list) + (length before - length (o .list)) = ap length (g .words) ∙ simp (length-append, length-replicate) refl in
+      let l : length after ≡ length (o .list) + (length before - length (o .list)) =
+      ap length (g .words) ∙ simp (length-append, length-replicate) refl in
       omega (arith, g .count)
 
   done-list : (n : ℕ) → Gives o (Done n) before after → take n after ≡ o .list
@@ -138,10 +138,10 @@ module _ (E : Entries) (words bytes : ℕ) where
   tried-alike e = rw e
 
 -- a refusal of all, from slices as long as at first
-pub tries-refused : {number n : ℕ} (why : Refusal) (r : Answer) (before middle after : LineWords) → refusalNumber why ≡ number
+pub tries-refused : {number n : ℕ} (why : Refusal) {r : Answer} {before middle after : LineWords} → refusalNumber why ≡ number
     → length (middle .text) ≡ length (before .text) → length (middle .mids) ≡ length (before .mids) → RefusedBy why r middle after
     → Tries number n r before after
-tries-refused why r before middle after e t m q =
+tries-refused why e t m q =
     rw (← e, q .answer) (record {
       numbered = refl;
       count = rw (numbered why) refl;
@@ -149,9 +149,10 @@ tries-refused why r before middle after e t m q =
       no-words = q .no-words ∙ ap zeros m;
     })
 
-pub tries-done : {number n : ℕ} (i : ℕ) (before middle after : LineWords) → 0 ≡ number → i ≡ n
+-- every line was written, and the slices were cleared
+pub tries-done : {number n i : ℕ} {before : LineWords} (middle : LineWords) {after : LineWords} → 0 ≡ number → i ≡ n
     → length (middle .text) ≡ length (before .text) → length (middle .mids) ≡ length (before .mids)
     → after .text ≡ zeros (length (middle .text)) → after .mids ≡ zeros (length (middle .mids))
     → Tries number n (Done i) before after
-tries-done i before middle after e k t m x y =
+tries-done middle e k t m x y =
     rw (← e) (record { numbered = refl; count = k; no-bytes = x ∙ ap zeros t; no-words = y ∙ ap zeros m })

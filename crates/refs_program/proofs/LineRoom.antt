@@ -3,19 +3,17 @@
 -- Assumes nothing.
 use Prim.Native.Nat.{ℕ, zero, suc, _+_, _-_, _*_, _^_, _≤_, _<_}
 use native.Mathlib.Omega.{arith}
-use mathlib.Core.Path.{_≡_, refl, sym, ap, _∙_}
+use mathlib.Core.Path.{_≡_, refl, ap, _∙_}
 use mathlib.Core.Logic.{⊎-elim}
-use mathlib.Core.Bool.{cond}
 use mathlib.Core.List.{List, [], _∷_, _++_}
 use mathlib.Core.Option.{Option, none, some}
-use lib.ListN.{length, getD}
+use lib.ListN.{length}
 use lib.Dec.{leb, eqb, ltb, lit<}
 use borrow.Author.Tests.{leb-true}
 use Rattle.words.proofs.Shared.{case, cond-elim}
 use Rattle.refusal.specs.Outcomes.{Outcome}
 use Rattle.code_table.specs.Slots.{shared, shareAt}
 use Rattle.slot_listing.specs.Listing.{snocTo, chain, listed, listedFrom, listOut}
-use Rattle.refs_program.specs.Text.{entryOut}
 use Rattle.refs_program.proofs.TextRoom.{Words, entry-fits, entry-room}
 use Rattle.refs_program.specs.Line.{lineBy, lineOut}
 
@@ -77,6 +75,7 @@ module _ (off idx words bytes : ℕ) (h : off < 2 ^ 32) (k : idx < 2 ^ 32) (few 
       (λ t. rw t refl)
       (case (leb (length l) words))
 
-  pub line-fits : (slot : ℕ) (shares : List ℕ) → slot < 2 ^ 32 → Words shares → lineOut off idx slot shares words bytes .number ≡ listOut shares slot words .number
+  pub line-fits : (slot : ℕ) (shares : List ℕ) → slot < 2 ^ 32 → Words shares
+      → lineOut off idx slot shares words bytes .number ≡ listOut shares slot words .number
   unfolding lineOut listOut
   line-fits slot shares s w = fits-by (listed shares slot) (listed-words shares slot s w)

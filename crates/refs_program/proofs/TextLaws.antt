@@ -30,11 +30,11 @@ unfolding more
 rest-none ws at = writes-none ws at
 
 -- the first i methods, and one more
-pub more-next : (a : List ℕ) (p : ℕ) (ms b : List ℕ) (q i : ℕ) (c : List ℕ) (r : ℕ) → i < length ms → Writes a p (more (take i ms)) b q
-    → Writes b q (44 ∷ decimal (getD ms i 0)) c r → Writes a p (more (take (i + 1) ms)) c r
-more-next a p ms b q i c r h x y =
+pub more-next : {a : List ℕ} {p : ℕ} {b : List ℕ} {q : ℕ} {c : List ℕ} {r : ℕ} (ms : List ℕ) (i : ℕ) → i < length ms
+    → Writes a p (more (take i ms)) b q → Writes b q (44 ∷ decimal (getD ms i 0)) c r → Writes a p (more (take (i + 1) ms)) c r
+more-next ms i h x y =
     let s : i + 1 ≡ suc i = omega arith in
-    rw (s, take-suc ms i 0 h, more-more (take i ms) (getD ms i 0)) (writes-then a p (more (take i ms)) b q (44 ∷ decimal (getD ms i 0)) c r x y)
+    rw (s, take-suc ms i 0 h, more-more (take i ms) (getD ms i 0)) (writes-then x y)
 
 -- the first method, and the others as they are lent on
 pub mids-some : (ms : List ℕ) → 0 < length ms → midsText ms ≡ decimal (getD ms 0 0) ++ more (take (length ms - 1) (drop 1 ms))
@@ -63,5 +63,6 @@ head-known kind hits room h k = rw (le-leb 1 kind h, le-leb kind 4 k) refl
 
 -- ---- a name and a number that is known
 
-pub named-number : (a : List ℕ) (p : ℕ) (name : List ℕ) (m n : ℕ) (b : List ℕ) (q : ℕ) → m ≡ n → Writes a p (name ++ decimal m) b q → Writes a p (name ++ decimal n) b q
-named-number a p name m n b q e w = rw (← e) w
+pub named-number : {a : List ℕ} {p : ℕ} (name : List ℕ) {m n : ℕ} {b : List ℕ} {q : ℕ} → m ≡ n → Writes a p (name ++ decimal m) b q
+    → Writes a p (name ++ decimal n) b q
+named-number name e w = rw (← e) w

@@ -3,14 +3,14 @@
 -- Assumes nothing.
 use Prim.Native.Nat.{ℕ, suc, _+_, _*_, _^_, _≤_, _<_}
 use native.Mathlib.Omega.{arith}
-use mathlib.Core.Path.{_≡_, refl, sym, ap, _∙_}
+use mathlib.Core.Path.{_≡_, refl}
 use mathlib.Core.Bool.{Bool, true, false, cond, _&&_}
 use mathlib.Core.List.{List, [], _∷_, _++_}
 use lib.ListN.{length, getD, length-append}
 use lib.Dec.{leb}
 use borrow.Author.Tests.{le-leb}
 use Rattle.refusal.specs.declared.Refusal.{Refusal}
-use Rattle.refusal.specs.Outcomes.{Outcome, refused}
+use Rattle.refusal.specs.Outcomes.{refused}
 use Rattle.text_out.specs.Text.{decimal, feed, textOut}
 use Rattle.text_out.proofs.Laws.{decimal-short, text-room}
 use Rattle.refs_program.specs.Text.{more, midsText, off=, idx=, mids=, entryText, headText, refusalText, entryOut, headOut, refusalOut}
@@ -26,7 +26,8 @@ module _ (m n : ℕ) (h : m ≤ n) where
   unfolding refusalOut
   refusal-room why e = text-room (refusalText why) m n h e
 
-  branch : (b : Bool) (text : List ℕ) → cond b (textOut text m) (refused 2) .number ≡ 0 → cond b (textOut text n) (refused 2) ≡ cond b (textOut text m) (refused 2)
+  branch : (b : Bool) (text : List ℕ) → cond b (textOut text m) (refused 2) .number ≡ 0
+      → cond b (textOut text n) (refused 2) ≡ cond b (textOut text m) (refused 2)
   branch true text e = text-room text m n h e
   branch false text e = refl
 

@@ -180,13 +180,16 @@ fn read_request(file: &[u8]) {
     answer(file, first_bytes(text, n), &mut wanted);
 }
 
+// How many bytes of a file the program reads. A longer one is refused.
+const MOST_BYTES: usize = 65536;
+
 // One byte more than is allowed is read, and tells.
 fn read_file(fd: i32) {
-    let mut room = [0u8; 65537];
+    let mut room = [0u8; MOST_BYTES + 1];
     let file: &mut [u8] = &mut room;
     let n = io::read_full(fd, file);
     libc::close(fd);
-    if 65536 < n {
+    if MOST_BYTES < n {
         print_refusal(Refusal::FileTooLarge);
         return;
     }

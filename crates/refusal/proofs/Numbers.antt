@@ -6,7 +6,9 @@ use lib.Dec.{eqb}
 use native.Mathlib.Omega.{arith}
 use borrow.Author.Tests.{ne-eqb}
 use Rattle.refusal.specs.declared.Refusal.{Refusal}
-use Rattle.refusal.specs.declared.Refusal.the-variants.{FileTooLarge, UnknownKind, TableOutside, LentTooShort, StringOutside, NumberOutside, MethodIndex, CodeOutside, BadQuery, LengthOverflow, NotAscii, RegionOutside, StringIndex, BadRequest, LentTable}
+use Rattle.refusal.specs.declared.Refusal.the-variants.{FileTooLarge, UnknownKind, TableOutside, LentTooShort, StringOutside, NumberOutside}
+use Rattle.refusal.specs.declared.Refusal.the-variants.{MethodIndex, CodeOutside, BadQuery, LengthOverflow, NotAscii, RegionOutside}
+use Rattle.refusal.specs.declared.Refusal.the-variants.{StringIndex, BadRequest, LentTable}
 use Rattle.refusal.specs.Refusals.{refusalNumber}
 
 pub some-number : (r : Refusal) → refusalNumber r ≡ 0 → ⊥

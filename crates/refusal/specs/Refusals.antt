@@ -4,7 +4,9 @@ use Prim.Native.Nat.{ℕ}
 use mathlib.Core.Bool.{Bool}
 use lib.Dec.{ltb}
 use Rattle.refusal.specs.declared.Refusal.{Refusal}
-use Rattle.refusal.specs.declared.Refusal.the-variants.{FileTooLarge, UnknownKind, TableOutside, LentTooShort, StringOutside, NumberOutside, MethodIndex, CodeOutside, BadQuery, LengthOverflow, NotAscii, RegionOutside, StringIndex, BadRequest, LentTable}
+use Rattle.refusal.specs.declared.Refusal.the-variants.{FileTooLarge, UnknownKind, TableOutside, LentTooShort, StringOutside}
+use Rattle.refusal.specs.declared.Refusal.the-variants.{NumberOutside, MethodIndex, CodeOutside, BadQuery, LengthOverflow}
+use Rattle.refusal.specs.declared.Refusal.the-variants.{NotAscii, RegionOutside, StringIndex, BadRequest, LentTable}
 use Rattle.refusal.specs.declared.Answer.{Answer}
 use Rattle.refusal.specs.declared.Answer.the-variants.{Done, Refused}
 

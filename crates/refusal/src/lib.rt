@@ -65,9 +65,12 @@ pub fn number(r: Refusal) -> u32
     }
 }
 
+// The bytes that a file may have (`largestFile` of specs/Refusals.antt).
+pub const LARGEST_FILE: usize = 16777216;
+
 // Whether a file of len bytes is refused.
 pub fn too_large(len: usize) -> bool
     ensures { λ r. ⌜ r ≡ tooLarge len ⌝ }
 {
-    16777216 < len
+    LARGEST_FILE < len
 }

@@ -1,7 +1,5 @@
 // The replay list: the parts of a case read, and the line of a case written. crates/replay/README.md has the form of both.
 use libc::STDOUT_FILENO;
-use structs::Read32;
-ghost use mathlib.Core.Path.{_≡_};
 ghost use Prim.Native.Nat.{_≤_};
 ghost use lib.ListN.{length};
 
@@ -29,16 +27,8 @@ pub(crate) enum Step {
     Bad,
 }
 
-// 4 bytes as a word, 0 past the end.
-pub(crate) fn word(text: &[u8], at: usize) -> u32 {
-    match structs::read_u32(text, at) {
-        Read32::Value(v) => v,
-        Read32::Outside => 0,
-    }
-}
-
 // The place after n bytes.
-pub(crate) fn behind(text: &[u8], at: usize, bytes: usize) -> Step {
+pub(crate) fn after(text: &[u8], at: usize, bytes: usize) -> Step {
     if text.len() < at {
         return Step::Bad;
     }
@@ -49,23 +39,23 @@ pub(crate) fn behind(text: &[u8], at: usize, bytes: usize) -> Step {
 }
 
 // The place after a list of n bytes, its count among them, and of at most as many items.
-fn behind_list(text: &[u8], at: usize, bytes: usize, most: u32) -> Step {
-    if most < word(text, at) {
+fn after_list(text: &[u8], at: usize, bytes: usize, most: u32) -> Step {
+    if most < structs::u32_at(text, at) {
         return Step::Bad;
     }
-    behind(text, at, bytes)
+    after(text, at, bytes)
 }
 
-// Behind part k of a case, which begins at a place.
-fn behind_part(case: &[u8], at: usize, k: u8) -> Step {
-    let n = word(case, at) as usize;
+// After part k of a case, which begins at a place.
+fn after_part(case: &[u8], at: usize, k: u8) -> Step {
+    let n = structs::u32_at(case, at) as usize;
     match k {
-        0 => behind(case, at, 68),
-        1 => behind_list(case, at, n + 4, 4096),
-        2..=3 => behind_list(case, at, n + 4, 512),
-        4 => behind_list(case, at, n * 8 + 4, 512),
-        5..=8 => behind_list(case, at, n * 4 + 4, 512),
-        _ => behind(case, at, 16),
+        0 => after(case, at, 68),
+        1 => after_list(case, at, n + 4, 4096),
+        2..=3 => after_list(case, at, n + 4, 512),
+        4 => after_list(case, at, n * 8 + 4, 512),
+        5..=8 => after_list(case, at, n * 4 + 4, 512),
+        _ => after(case, at, 16),
     }
 }
 
@@ -74,7 +64,7 @@ fn place(case: &[u8], k: u8) -> Step {
     let mut at = 0;
     let mut i = 0;
     while i < k {
-        let Step::To(next) = behind_part(case, at, i) else {
+        let Step::To(next) = after_part(case, at, i) else {
             return Step::Bad;
         };
         at = next;
@@ -114,12 +104,12 @@ fn part(case: &[u8], k: u8) -> &[u8] {
 
 // Number i of a case's head, which has its operation before them.
 pub(crate) fn number(case: &[u8], i: u8) -> u32 {
-    word(case, (i as usize) * 4 + 4)
+    structs::u32_at(case, (i as usize) * 4 + 4)
 }
 
 // How many items part k has, which is a list.
 pub(crate) fn count(case: &[u8], k: u8) -> usize {
-    word(part(case, k), 0) as usize
+    structs::u32_at(part(case, k), 0) as usize
 }
 
 // The bytes of part k, a list of bytes.
@@ -128,7 +118,7 @@ pub(crate) fn bytes(case: &[u8], k: u8) -> &[u8] {
 }
 
 fn put_word(list: &[u8], i: u32, room: &mut [u32]) {
-    words::put(room, i as usize, word(list, (i as usize) * 4));
+    words::put(room, i as usize, structs::u32_at(list, (i as usize) * 4));
 }
 
 // The first n words of a list.
@@ -151,7 +141,7 @@ pub(crate) fn header(case: &[u8]) -> [u32; 13] {
 pub(crate) fn loaded(case: &[u8], k: u8) -> [u32; 512] {
     let mut room = [0u32; 512];
     let list = part(case, k);
-    load(from(list, 4), word(list, 0), &mut room);
+    load(from(list, 4), structs::u32_at(list, 0), &mut room);
     room
 }
 
@@ -168,8 +158,8 @@ pub(crate) fn given<'a>(room: &'a [u32], case: &[u8], k: u8) -> &'a [u32] {
 }
 
 fn key(list: &[u8], i: u32) -> u64 {
-    let low = word(list, (i as usize) * 8) as u64;
-    let high = word(list, (i as usize) * 8 + 4) as u64;
+    let low = structs::u32_at(list, (i as usize) * 8) as u64;
+    let high = structs::u32_at(list, (i as usize) * 8 + 4) as u64;
     high * 4294967296 + low
 }
 
@@ -191,7 +181,7 @@ fn load_keys(list: &[u8], n: u32, room: &mut [u64]) {
 pub(crate) fn loaded_keys(case: &[u8]) -> [u64; 512] {
     let mut room = [0u64; 512];
     let list = part(case, KEYS);
-    load_keys(from(list, 4), word(list, 0), &mut room);
+    load_keys(from(list, 4), structs::u32_at(list, 0), &mut room);
     room
 }
 
@@ -207,7 +197,7 @@ pub(crate) fn given_keys<'a>(room: &'a [u64], case: &[u8]) -> &'a [u64] {
 }
 
 fn length(case: &[u8], i: u8) -> u32 {
-    word(part(case, LENGTHS), (i as usize) * 4)
+    structs::u32_at(part(case, LENGTHS), (i as usize) * 4)
 }
 
 // The length of lent output i.

@@ -454,7 +454,7 @@ fn lend_four(op: u32, case: &[u8]) {
 }
 
 fn call(case: &[u8], keys: &[u64], w1: &[u32], w2: &[u32], w3: &[u32], w4: &[u32]) {
-    let op = case_list::word(case, 0);
+    let op = structs::u32_at(case, 0);
     match op {
         3 => group(case, w1, w2),
         5 => string_bytes(case),
@@ -516,7 +516,7 @@ fn known(op: u32) -> bool {
 
 // Whether there is such an operation, and room for its outputs: then it is called.
 fn called(case: &[u8]) -> bool {
-    if known(case_list::word(case, 0)) {
+    if known(structs::u32_at(case, 0)) {
         if case_list::fit(case) {
             run(case);
             return true;
@@ -532,7 +532,7 @@ fn one(text: &[u8], at: usize) -> Step {
         return Step::Bad;
     };
     if called(case_list::first(rest, n)) {
-        return case_list::behind(text, at, n);
+        return case_list::after(text, at, n);
     }
     Step::Bad
 }
@@ -553,7 +553,7 @@ fn cases(text: &[u8], n: u32) -> Step {
 
 // The whole list: nothing stands after its last case.
 fn whole(text: &[u8]) -> bool {
-    match cases(text, case_list::word(text, 0)) {
+    match cases(text, structs::u32_at(text, 0)) {
         Step::To(end) => end == text.len(),
         Step::Bad => false,
     }
@@ -565,6 +565,9 @@ fn replay(text: &[u8]) {
     }
     case_list::print(b"bad case\n");
 }
+
+// How many bytes the list may have.
+const MOST_BYTES: usize = 1048576;
 
 // Room for the longest list of cases, and a byte more.
 fn buffer() -> [u8; 1048577]
@@ -583,7 +586,7 @@ fn main() {
     let mut text = buffer();
     let n = io::read_full(fd, &mut text);
     libc::close(fd);
-    if 1048576 < n {
+    if MOST_BYTES < n {
         case_list::print(b"bad case\n");
         return;
     }

@@ -1,20 +1,20 @@
 -- Reading the indices one by one stores the list: what is stored so far and what is still to be read make up the whole at each step.
 -- Assumes nothing.
-use Prim.Native.Nat.{ℕ, zero, suc, _+_, _-_, _<_, _≤_}
+use Prim.Native.Nat.{ℕ, suc, _+_}
 use native.Mathlib.Omega.{arith}
 use native.Mathlib.Numerals.{add-one}
-use mathlib.Core.Path.{_≡_, refl, sym, ap, ap₂, _∙_}
+use mathlib.Core.Path.{_≡_, refl, sym, ap, _∙_}
 use mathlib.Core.List.{List, [], _∷_}
 use lib.ListN.{length, set}
 use lib.Seq.{sets}
-use Rattle.text_in.specs.Numbers.{numberAt, onNumber}
-use Rattle.text_in.specs.Words.{wordAt, lineEnd, onPlace}
+use Rattle.text_in.specs.Numbers.{numberAt}
+use Rattle.text_in.specs.Words.{wordAt, lineEnd}
 use Rattle.request.specs.Lines.{comma, pairLine}
 use Rattle.request.specs.declared.lines.Pair.the-variants as q
 use Rattle.text_in.specs.declared.Number.the-variants as n
 use Rattle.text_in.specs.declared.Place.the-variants as p
-use Rattle.request.specs.Request.{strings=, headerLines, Listed, listed, none, consTo, indicesAt, indexLine, index=, ended}
-use Rattle.request.specs.Steps.{Stored, kept, nothing, stored, view}
+use Rattle.request.specs.Request.{strings=, headerLines, Listed, listed, none, consTo, indicesAt, indexLine, index=}
+use Rattle.request.specs.Steps.{Stored, kept, stored, view}
 use Rattle.request.specs.declared.Header.the-variants as h
 use Rattle.request.specs.declared.Indices.{Indices}
 use Rattle.request.specs.declared.Indices.the-variants as x
@@ -44,7 +44,7 @@ module _ (s : List ℕ) (l i : ℕ) where
   more-numbers v q j e f = rw (← e, ← f)
 
 -- the whole is w; k indices are stored in ws, and at most m are left, of which l stand after the next
-module _ (s : List ℕ) (m l i k : ℕ) (ws : List ℕ) (w : Stored) (next : m ≡ suc l) (whole : stored k ws (indicesAt m s i) ≡ w) where
+module _ (s : List ℕ) {m l : ℕ} (i k : ℕ) (ws : List ℕ) {w : Stored} (next : m ≡ suc l) (whole : stored k ws (indicesAt m s i) ≡ w) where
   here : stored k ws (indicesAt (suc l) s i) ≡ w
   here = rw next at whole
 
@@ -59,9 +59,9 @@ module _ (s : List ℕ) (m l i k : ℕ) (ws : List ℕ) (w : Stored) (next : m �
   pub goes-on : (v q j : ℕ) → n.Value v q ≡ numberAt s i → p.At j ≡ wordAt comma s q → stored (k + 1) (set ws k v) (indicesAt l s j) ≡ w
   goes-on v q j e f = stored-cons k ws v (indicesAt l s j) ∙ (ap (stored k ws) (sym (more-numbers s l i v q j e f)) ∙ here)
 
-pub none-left : (s : List ℕ) (m i k : ℕ) (ws us : List ℕ) (w : Stored) → m ≡ 0 → stored k ws (indicesAt m s i) ≡ w → view x.Nothing us ≡ w
+pub none-left : (s : List ℕ) {m : ℕ} (i k : ℕ) (ws us : List ℕ) {w : Stored} → m ≡ 0 → stored k ws (indicesAt m s i) ≡ w → view x.Nothing us ≡ w
 unfolding indicesAt stored view
-none-left s m i k ws us w z e = rw z at e
+none-left s i k ws us z e = rw z at e
 
 -- what was read, of what is stored
 pub read-none : (ws us : List ℕ) (l : Listed) → view x.Nothing us ≡ stored 0 ws l → l ≡ none
@@ -89,7 +89,8 @@ module _ (s : List ℕ) (i : ℕ) (ws us : List ℕ) where
   unfolding indexLine stored view
   line-unnamed e = rw (← e)
 
-  pub line-unread : (a : ℕ) → p.At a ≡ wordAt index= s i → view x.Nothing us ≡ stored 0 ws (indicesAt 16 s a) → view x.Nothing us ≡ stored 0 ws (indexLine s i)
+  pub line-unread : (a : ℕ) → p.At a ≡ wordAt index= s i → view x.Nothing us ≡ stored 0 ws (indicesAt 16 s a)
+      → view x.Nothing us ≡ stored 0 ws (indexLine s i)
   unfolding indexLine stored view
   line-unread a e f = rw (← e, read-none ws us (indicesAt 16 s a) f)
 

@@ -3,7 +3,7 @@
 -- Assumes nothing.
 use Prim.Native.Nat.{ℕ, zero, suc, _≤_}
 use native.Mathlib.Omega.{arith}
-use mathlib.Core.Path.{_≡_, refl, sym}
+use mathlib.Core.Path.{_≡_, refl}
 use mathlib.Core.Logic.{⊎-elim}
 use mathlib.Core.List.{List, [], _∷_}
 use mathlib.Core.Bool.{Bool, true, false, cond}
@@ -21,7 +21,8 @@ use Rattle.text_in.specs.declared.Place.the-variants as p
 use Rattle.request.specs.Lines.{comma, kindLine}
 use Rattle.request.specs.declared.Header.{Header}
 use Rattle.request.specs.declared.Header.the-variants as h
-use Rattle.request.specs.Request.{headerLines, onHeader, Listed, listed, none, consTo, indicesAt, index=, indexLine, ended, Said, said, malformed, toTheEnd, saidBy, fitted, requestOf}
+use Rattle.request.specs.Request.{headerLines, onHeader, Listed, listed, none, consTo, indicesAt, index=, indexLine, ended, Said, said}
+use Rattle.request.specs.Request.{malformed, toTheEnd, saidBy, fitted, requestOf}
 
 -- at most that many
 abbrev Few : ℕ → Listed → Type 0

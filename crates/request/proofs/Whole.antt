@@ -14,12 +14,12 @@ use Rattle.refusal.specs.Refusals.{refusalNumber}
 use Rattle.tinydex.specs.declared.DexHeader.{DexHeader}
 use Rattle.request.specs.Lines.{kindLine}
 use Rattle.text_in.specs.declared.Number.the-variants as n
-use Rattle.request.specs.Request.{headerLines, indexLine, listed, Said, said, malformed, toTheEnd, saidBy, fitted, refused, Outcome, requestOf, Says}
+use Rattle.request.specs.Request.{headerLines, indexLine, said, malformed, toTheEnd, saidBy, fitted, refused, Outcome, requestOf, Says}
 use Rattle.request.specs.Steps.{stored, view, RefusedBy}
 use Rattle.request.specs.declared.Header.the-variants as h
 use Rattle.request.specs.declared.Indices.the-variants as x
 use Rattle.request.specs.declared.Request.{Request}
-use Rattle.request.specs.declared.Request.the-variants.{Asked, Refused}
+use Rattle.request.specs.declared.Request.the-variants.{Asked}
 use Rattle.request.proofs.Laws.{read-none, ReadAll, read-all}
 
 -- ---- the outcome, line by line
@@ -33,12 +33,12 @@ module _ (s : List ℕ) (room : ℕ) where
   unfolding saidBy
   no-header e = bad (rw (← e))
 
-  module _ (d : DexHeader) (a : ℕ) (e : h.At d a ≡ headerLines s) where
+  module _ {d : DexHeader} {a : ℕ} (e : h.At d a ≡ headerLines s) where
     pub no-kind : n.Nothing ≡ kindLine s a → requestOf s room ≡ refused 14
     unfolding saidBy
     no-kind f = bad (rw (← e, ← f))
 
-    module _ (k b : ℕ) (f : n.Value k b ≡ kindLine s a) where
+    module _ {k b : ℕ} (f : n.Value k b ≡ kindLine s a) where
       lines : saidBy s ≡ toTheEnd s d k (indexLine s b)
       unfolding saidBy
       lines = rw (← e, ← f)
@@ -75,14 +75,17 @@ module _ (s : List ℕ) (room : ℕ) where
                 header = refl;
                 kind = refl;
                 count = all .counted;
-                wanted = all .words ∙ (ap (λ (v : List ℕ). sets v 0 (all .list)) w ∙ (sets-zeros room (all .list) refl l ∙ ap (λ (k : ℕ). padded k (all .list)) (sym t)));
+                wanted =
+                    all .words ∙ (ap (λ (v : List ℕ). sets v 0 (all .list)) w
+                    ∙ (sets-zeros room (all .list) refl l ∙ ap (λ (k : ℕ). padded k (all .list)) (sym t)));
               })
 
 -- ---- a refusal
 
-pub says-refused : (o : Outcome) (why : Refusal) (q : Request) (before ws after : List ℕ) → o ≡ refused (refusalNumber why) → length ws ≡ length before
+pub says-refused : {o : Outcome} (why : Refusal) {q : Request} {before ws after : List ℕ} → o ≡ refused (refusalNumber why)
+    → length ws ≡ length before
     → RefusedBy why q ws after → Says o q before after
-says-refused o why q before ws after e h r =
+says-refused why {before = before} e h r =
     rw (e, r .request) (record {
       number = refl;
       header = refl;

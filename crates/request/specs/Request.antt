@@ -50,7 +50,16 @@ restLines strings types prototypes s i =
     onPair (pairLine methods= s a) h.Nothing (λ methods b.
     onPair (pairLine classes= s b) h.Nothing (λ classes c.
     onNumber (numberLine mapoff= s c) h.Nothing (λ mapoff d.
-    h.At (record { strings = strings; types = types; prototypes = prototypes; fields = fields; methods = methods; classes = classes; mapoff = mapoff }) d))))
+    h.At (
+    record {
+      strings = strings;
+      types = types;
+      prototypes = prototypes;
+      fields = fields;
+      methods = methods;
+      classes = classes;
+      mapoff = mapoff;
+    }) d))))
 
 -- the record's lines, in their order
 unfoldable pub headerLines : List ℕ → Header

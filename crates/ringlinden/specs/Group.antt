@@ -1,6 +1,6 @@
 -- Where the group of a key stands: the stretch of `groups::slice` as a start and a count, 0 and 0 where it has none.
 -- Assumes nothing.
-use Prim.Native.Nat.{ℕ, _+_, _-_, _≤_}
+use Prim.Native.Nat.{ℕ, _+_, _≤_}
 use mathlib.Core.Path.{_≡_}
 use mathlib.Core.List.{List}
 use mathlib.Core.Bool.{Bool, cond, _&&_}

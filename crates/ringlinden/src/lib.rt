@@ -82,7 +82,8 @@ pub extern "C" fn ringlinden_method_groups(
         let after = methodWords (groupWords (now («clz_offsets» .exit)) (now («clz_mids» .exit)))
         (groupWords (now («name_offsets» .exit)) (now («name_mids» .exit))) in
         let outcome = methodsOutcome (now (file .entry)) (headerOf (now (header .entry))) before in
-        ⌜ Told ofMethodGroups (λ (a : MethodGroups). GivesMethods outcome a before after) (r ∷ now («clz_count» .exit) ∷ now («name_count» .exit) ∷ []) ⌝ }
+        let told = r ∷ now («clz_count» .exit) ∷ now («name_count» .exit) ∷ [] in
+        ⌜ Told ofMethodGroups (λ (a : MethodGroups). GivesMethods outcome a before after) told ⌝ }
 {
     let answer = method_locator::build_map(
         file,
@@ -366,7 +367,8 @@ pub extern "C" fn ringlinden_list_slot(
 ) -> u32
     ensures gives { λ r.
         let outcome = listOut (now (shares .entry)) slot (length (now (methods .entry))) in
-        ⌜ Told ofAnswer (λ (a : AnAnswer). GivesWords outcome a (now (methods .entry)) (now (methods .exit))) (r ∷ now (count .exit) ∷ []) ⌝ }
+        ⌜ Told ofAnswer (λ (a : AnAnswer). GivesWords outcome a (now (methods .entry)) (now (methods .exit)))
+        (r ∷ now (count .exit) ∷ []) ⌝ }
 {
     let listed = slot_listing::list_slot(shares, slot, methods);
     c_answers::tell(listed, count)
@@ -394,17 +396,23 @@ pub extern "C" fn ringlinden_find(
     ensures gives { λ r.
         let table = tableWords (now (starts .entry)) (now (triples .entry)) (now (slots .entry)) (now (shares .entry)) in
         let left = tableWords (now (starts .exit)) (now (triples .exit)) (now (slots .exit)) (now (shares .exit)) in
-        let before = findWords table (hitWords (now (offs .entry)) (now (marks .entry))) (locateWords (now (further .entry)) (now (answers .entry))) in
-        let after = findWords left (hitWords (now (offs .exit)) (now (marks .exit))) (locateWords (now (further .exit)) (now (answers .exit))) in
+        let before = findWords table (hitWords (now (offs .entry)) (now (marks .entry)))
+        (locateWords (now (further .entry)) (now (answers .entry))) in
+        let after = findWords left (hitWords (now (offs .exit)) (now (marks .exit)))
+        (locateWords (now (further .exit)) (now (answers .exit))) in
         let outcome = findOut (now (file .entry)) (headerOf (now (header .entry))) kind (now (wanted .entry)) (lengthsOf before) in
-        ⌜ Told ofFound (λ (a : AFound). GivesFind outcome a before after) (r ∷ now («region_start» .exit) ∷ now («region_end» .exit) ∷ now (hits .exit) ∷ []) ⌝ }
+        let told = r ∷ now («region_start» .exit) ∷ now («region_end» .exit) ∷ now (hits .exit) ∷ [] in
+        ⌜ Told ofFound (λ (a : AFound). GivesFind outcome a before after) told ⌝ }
     ensures demand_3 { λ r.
         let table = tableWords (now (starts .entry)) (now (triples .entry)) (now (slots .entry)) (now (shares .entry)) in
         let left = tableWords (now (starts .exit)) (now (triples .exit)) (now (slots .exit)) (now (shares .exit)) in
-        let before = findWords table (hitWords (now (offs .entry)) (now (marks .entry))) (locateWords (now (further .entry)) (now (answers .entry))) in
-        let after = findWords left (hitWords (now (offs .exit)) (now (marks .exit))) (locateWords (now (further .exit)) (now (answers .exit))) in
+        let before = findWords table (hitWords (now (offs .entry)) (now (marks .entry)))
+        (locateWords (now (further .entry)) (now (answers .entry))) in
+        let after = findWords left (hitWords (now (offs .exit)) (now (marks .exit)))
+        (locateWords (now (further .exit)) (now (answers .exit))) in
         let call = callOf (now (file .entry)) (headerOf (now (header .entry))) kind (now (wanted .entry)) in
-        ⌜ Told ofFound (λ (a : AFound). Demand3 call before (replyOf a) after) (r ∷ now («region_start» .exit) ∷ now («region_end» .exit) ∷ now (hits .exit) ∷ []) ⌝ }
+        let told = r ∷ now («region_start» .exit) ∷ now («region_end» .exit) ∷ now (hits .exit) ∷ [] in
+        ⌜ Told ofFound (λ (a : AFound). Demand3 call before (replyOf a) after) told ⌝ }
 {
     let answer = findrefs::find(
         file,

@@ -23,7 +23,7 @@ use Rattle.leb128.specs.Leb.{ulebFast, onUleb}
 use Rattle.leb128.specs.declared.Uleb.{Uleb}
 use Rattle.leb128.specs.declared.Uleb.the-variants as u
 use Rattle.leb128.proofs.Laws.{reason-number, fast-reason}
-use Rattle.class_data.specs.Walk.{Walk, behind, andOn, word, mostMethods, codeAt, codeInside, withMethod, methodsFrom, classDataAt}
+use Rattle.class_data.specs.Walk.{Walk, following, andOn, word, mostMethods, codeAt, codeInside, withMethod, methodsFrom, classDataAt}
 use Rattle.class_data.specs.Walk.Walk.{refused, found}
 use Rattle.class_data.specs.Stored.{firstBucket}
 use Rattle.class_data.specs.Codes.{successive, defined, mapEntry, byEntry, codesOf}
@@ -55,7 +55,8 @@ module _ (len count : ℕ) (room room′ : Room) (L : Longer room room′) where
       (λ z. z))
       (λ z. refl)
 
-pub build-more : (s : List ℕ) (h : DexHeader) (room room′ : Room) → Longer room room′ → buildOut s h room .number ≡ 0 → buildOut s h room′ ≡ buildOut s h room
+pub build-more : (s : List ℕ) (h : DexHeader) (room room′ : Room) → Longer room room′ → buildOut s h room .number ≡ 0
+    → buildOut s h room′ ≡ buildOut s h room
 unfolding buildOut
 build-more s h room room′ L =
     let n : Build → ℕ = λ B. B .number in
@@ -68,7 +69,8 @@ abbrev Not : Walk → Type 0
 Not (refused r) = refusalNumber r ≢ 4
 Not (found cs e) = Unit {0}
 
-by-number : (r : Uleb) (f : ℕ → ℕ → Walk) → ((y : Refusal) → u.Refused y ≡ r → refusalNumber y ≢ 4) → ((v n : ℕ) → Not (f v n)) → Not (onUleb r (λ y. refused y) f)
+by-number : (r : Uleb) (f : ℕ → ℕ → Walk) → ((y : Refusal) → u.Refused y ≡ r → refusalNumber y ≢ 4) → ((v n : ℕ) → Not (f v n))
+    → Not (onUleb r (λ y. refused y) f)
 by-number (u.Number v n) f a g = g v n
 by-number (u.Refused y) f a g = a y refl
 
@@ -76,20 +78,21 @@ by-number (u.Refused y) f a g = a y refl
 reads : (s : List ℕ) (i : ℕ) (f : ℕ → ℕ → Walk) → ((v n : ℕ) → Not (f v n)) → Not (onUleb (ulebFast s i) (λ y. refused y) f)
 reads s i f g = by-number (ulebFast s i) f (λ y e. reason-number y (fast-reason s i y e)) g
 
-behind-not : (cs : List Code) (w : Walk) → Not w → Not (behind cs w)
-behind-not cs (refused r) n = n
-behind-not cs (found ds e) n = tt
+following-not : (cs : List Code) (w : Walk) → Not w → Not (following cs w)
+following-not cs (refused r) n = n
+following-not cs (found ds e) n = tt
 
 on-not : (w : Walk) (f : ℕ → Walk) → Not w → ((e : ℕ) → Not (f e)) → Not (andOn w f)
 on-not (refused r) f n g = n
-on-not (found cs e) f n g = behind-not cs (f e) (g e)
+on-not (found cs e) f n g = following-not cs (f e) (g e)
 
 module _ (s : List ℕ) (m : ℕ) where
   method-not : (i c : ℕ) (rest : Walk) → Not rest → Not (withMethod s m i c rest)
   method-not i c rest n =
       cond-elim Not (eqb c 0) rest _ (λ _. n)
       (λ _. cond-elim Not (ltb i m && ltb i mostMethods) _ (refused MethodIndex)
-      (λ _. cond-elim Not (codeInside s c) (behind (codeAt s i c ∷ []) rest) (refused CodeOutside) (λ _. behind-not (codeAt s i c ∷ []) rest n) (λ _ e. omega arith))
+      (λ _. cond-elim Not (codeInside s c) (following (codeAt s i c ∷ []) rest) (refused CodeOutside) (λ _. following-not (codeAt s i c ∷ []) rest n)
+      (λ _ e. omega arith))
       (λ _ e. omega arith))
 
   methods-not : (n i j : ℕ) → Not (methodsFrom n s m i j)

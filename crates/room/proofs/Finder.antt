@@ -20,7 +20,8 @@ use Rattle.tinydex.specs.declared.DexHeader.{DexHeader}
 use Rattle.code_item_scan.specs.Scan.{Hit, offs, Asked, asked, Scan, scanOut}
 use Rattle.code_table.specs.Slots.{shared, shareAt}
 use Rattle.code_table.specs.Build.{Build, buildOut}
-use Rattle.insn_locator.specs.Locate.{Tables, Answered, slotAt, firstOf, answeredBy, answered, consTo, andThen, locateFrom, locateAll, answersFrom, locateOut}
+use Rattle.insn_locator.specs.Locate.{Tables, Answered, slotAt, firstOf, answeredBy, answered, consTo, andThen, locateFrom, locateAll, answersFrom}
+use Rattle.insn_locator.specs.Locate.{locateOut}
 use Rattle.insn_locator.specs.Answers.{tables}
 use Rattle.findrefs.specs.Find.{Lengths, Search, searched, searchOut, builtTables, found, searchOf, findOut}
 use Rattle.room.specs.Laws.{LongerAll}
@@ -42,15 +43,20 @@ cons-kept : (a : ℕ) (o o′ : Option (List ℕ)) → Kept o o′ → Kept (con
 cons-kept a none o′ k = none-kept (consTo a o′)
 cons-kept a (some l) o′ k = same-kept (some (a ∷ l)) (consTo a o′) (ap (consTo a) (sym (k l refl)))
 
-then-kept : (o o′ : Option Answered) (f f′ : List ℕ → Option (List ℕ)) → Kept o o′ → ((l : List ℕ) → Kept (f l) (f′ l)) → Kept (andThen o f) (andThen o′ f′)
+then-kept : (o o′ : Option Answered) (f f′ : List ℕ → Option (List ℕ)) → Kept o o′ → ((l : List ℕ) → Kept (f l) (f′ l))
+    → Kept (andThen o f) (andThen o′ f′)
 then-kept none o′ f f′ k g = none-kept (andThen o′ f′)
 then-kept (some r) o′ f f′ k g =
     let q : o′ ≡ some r = k r refl in
     λ x e. ap (λ (o : Option Answered). andThen o f′) q ∙ cons-kept (r .answer) (f (r .last)) (f′ (r .last)) (g (r .last)) x e
 
 -- ---- locate over tables that read alike, with shares that are no fewer
-module _ (s : List ℕ) (base : ℕ) (starts xs xs′ ws ws′ : List ℕ) (p : (i : ℕ) → getD xs i 0 ≡ getD xs′ i 0) (q : (i : ℕ) → getD ws i 0 ≡ getD ws′ i 0)
-    (n : length ws ≤ length ws′) where
+record Alike (xs xs′ ws ws′ : List ℕ) : Type 0 where
+  slots : (i : ℕ) → getD xs i 0 ≡ getD xs′ i 0
+  shares : (i : ℕ) → getD ws i 0 ≡ getD ws′ i 0
+  longer : length ws ≤ length ws′
+
+module _ (s : List ℕ) (base : ℕ) (starts : List ℕ) {xs xs′ ws ws′ : List ℕ} (alike : Alike xs xs′ ws ws′) where
   abbrev T : Tables
   T = tables base xs starts ws
 
@@ -65,8 +71,8 @@ module _ (s : List ℕ) (base : ℕ) (starts xs xs′ ws ws′ : List ℕ) (p : 
       (λ (a : ltb v shared ≡ false).
       ⊎-elim
       (λ (b : leb (3 * (v - shared) + 3) (length ws) ≡ true).
-      rw (a, b, le-leb (3 * (v - shared) + 3) (length ws′) (omega (arith, leb-true (3 * (v - shared) + 3) (length ws) b)))
-      (same-kept (some (shareAt ws (v - shared) 0)) (some (shareAt ws′ (v - shared) 0)) (ap some (q (3 * (v - shared) + 0)))))
+      rw (a, b, le-leb (3 * (v - shared) + 3) (length ws′) (omega (arith, alike .longer, leb-true (3 * (v - shared) + 3) (length ws) b)))
+      (same-kept (some (shareAt ws (v - shared) 0)) (some (shareAt ws′ (v - shared) 0)) (ap some (alike .shares (3 * (v - shared) + 0)))))
       (λ (b : leb (3 * (v - shared) + 3) (length ws) ≡ false). rw (a, b) (none-kept _))
       (case (leb (3 * (v - shared) + 3) (length ws))))
       (case (ltb v shared))
@@ -85,14 +91,15 @@ module _ (s : List ℕ) (base : ℕ) (starts xs xs′ ws ws′ : List ℕ) (p : 
 
   slot-same : (t : ℕ) → slotAt base xs t ≡ slotAt base xs′ t
   unfolding slotAt
-  slot-same t = rw (p (t / 16 - base))
+  slot-same t = rw (alike .slots (t / 16 - base))
 
   from-kept : (ts last : List ℕ) → Kept (locateFrom s T last ts) (locateFrom s T′ last ts)
   unfolding locateFrom
   from-kept [] last = λ x e. e
   from-kept (t ∷ ts) last =
       rw (slot-same t)
-      (then-kept (answered s T last t (slotAt base xs′ t)) (answered s T′ last t (slotAt base xs′ t)) (λ l. locateFrom s T l ts) (λ l. locateFrom s T′ l ts)
+      (then-kept (answered s T last t (slotAt base xs′ t)) (answered s T′ last t (slotAt base xs′ t))
+      (λ l. locateFrom s T l ts) (λ l. locateFrom s T′ l ts)
       (answered-kept last t (slotAt base xs′ t)) (λ l. from-kept ts l))
 
   answers-kept : (o o′ : Option (List ℕ)) → Kept o o′ → answersFrom o .number ≡ 0 → answersFrom o′ ≡ answersFrom o
@@ -145,6 +152,16 @@ module _ (s : List ℕ) (A : Asked) (B : Build) where
       let n : ℕ = scanOut s A (L .hits) .number in
       ⊎-elim (λ (b : eqb n 0 ≡ true). eqb-true n 0 b) (λ (b : eqb n 0 ≡ false). rw b at e) (case (eqb n 0))
 
+  built-alike : (L L′ : Lengths) → LongerAll L L′
+      → Alike (padded (L .build .slots) (B .slots)) (padded (L′ .build .slots) (B .slots))
+      (padded (L .build .shares) (B .shares)) (padded (L′ .build .shares) (B .shares))
+  built-alike L L′ M =
+      record {
+        slots = padded-same (L .build .slots) (L′ .build .slots) (B .slots);
+        shares = padded-same (L .build .shares) (L′ .build .shares) (B .shares);
+        longer = padded-longer (L .build .shares) (L′ .build .shares) (B .shares) (M .build .shares);
+      }
+
   search-more : (L L′ : Lengths) → LongerAll L L′ → searchIn L .number ≡ 0 → searchIn L′ ≡ searchIn L
   search-more L L′ M e =
       let S : Scan = scanOut s A (L .hits) in
@@ -155,12 +172,9 @@ module _ (s : List ℕ) (A : Asked) (B : Build) where
       let y : locateOut s T₀ (offs (S .hits)) (L .answers) (L .further) .number ≡ 0 =
       searched-zero (S .hits) (locateOut s T₀ (offs (S .hits)) (L .answers) (L .further)) (rw (search-is L z) at e) in
       let t : locateOut s T₁ (offs (S .hits)) (L .answers) (L .further) ≡ locateOut s T₀ (offs (S .hits)) (L .answers) (L .further) =
-      tables-more s (B .from / 16) (B .starts) (padded (L .build .slots) (B .slots)) (padded (L′ .build .slots) (B .slots))
-      (padded (L .build .shares) (B .shares)) (padded (L′ .build .shares) (B .shares))
-      (padded-same (L .build .slots) (L′ .build .slots) (B .slots)) (padded-same (L .build .shares) (L′ .build .shares) (B .shares))
-      (padded-longer (L .build .shares) (L′ .build .shares) (B .shares) (M .build .shares)) (offs (S .hits)) (L .answers) (L .further) y in
+      tables-more s (B .from / 16) (B .starts) (built-alike L L′ M) (offs (S .hits)) (L .answers) (L .further) y in
       let l : locateOut s T₁ (offs (S .hits)) (L′ .answers) (L′ .further) ≡ locateOut s T₁ (offs (S .hits)) (L .answers) (L .further) =
-      locate-more s T₁ (offs (S .hits)) (L .answers) (L .further) (L′ .answers) (L′ .further) (M .answers) (M .further) (ap (λ (o : Outcome). o .number) t ∙ y) in
+      locate-more s T₁ (offs (S .hits)) (M .answers) (M .further) (ap (λ (o : Outcome). o .number) t ∙ y) in
       search-is L′ (ap (λ (x : Scan). x .number) q ∙ z)
       ∙ (ap (λ (x : Scan). searched (x .hits) (locateOut s T₁ (offs (x .hits)) (L′ .answers) (L′ .further))) q
       ∙ (ap (searched (S .hits)) (l ∙ t) ∙ sym (search-is L z)))

@@ -38,9 +38,11 @@ more-short g l m l′ m′ a b =
 fitting-more : (g : GroupWords) (l m l′ m′ : ℕ) → l ≤ l′ → m ≤ m′ → fitting g l m .number ≡ 0 → fitting g l′ m′ ≡ fitting g l m
 unfolding fitting
 fitting-more g l m l′ m′ a b =
-    room-else (λ (o : Outcome). o .number) (short g l m) (short g l′ m′) (refused 4) (record { number = 0; groups = g }) (λ e. omega arith) (more-short g l m l′ m′ a b)
+    room-else (λ (o : Outcome). o .number) (short g l m) (short g l′ m′) (refused 4) (record { number = 0; groups = g }) (λ e. omega arith)
+    (more-short g l m l′ m′ a b)
 
-pub groups-more : (len : ℕ) (t : Table) (size : ℕ) (g before before′ : GroupWords) → LongerGroups before before′ → outcome len t size g before .number ≡ 0
+pub groups-more : (len : ℕ) (t : Table) (size : ℕ) (g before before′ : GroupWords) → LongerGroups before before′
+    → outcome len t size g before .number ≡ 0
     → outcome len t size g before′ ≡ outcome len t size g before
 unfolding outcome
 groups-more len t size g b b′ m =
@@ -49,7 +51,8 @@ groups-more len t size g b b′ m =
     (same-else n (passes len t size) (refused 3) _ _
     (fitting-more g (length (b .offs)) (length (b .ids)) (length (b′ .offs)) (length (b′ .ids)) (m .offs) (m .ids)))
 
-pub methods-more : (s : List ℕ) (h : DexHeader) (before before′ : m.MethodWords) → LongerGroups (before .clz) (before′ .clz) → LongerGroups (before .name) (before′ .name)
+pub methods-more : (s : List ℕ) (h : DexHeader) (before before′ : m.MethodWords) → LongerGroups (before .clz) (before′ .clz)
+    → LongerGroups (before .name) (before′ .name)
     → m.outcome s h before .number ≡ 0 → m.outcome s h before′ ≡ m.outcome s h before
 unfolding m.joint
 methods-more s h before before′ a b e =
@@ -77,7 +80,8 @@ not-short key n pool l m a b =
       le-ltb m (length (grouped key n pool)) (omega (arith, few key n pool)),
     )
 
-pub groups-enough : (len : ℕ) (t : Table) (size : ℕ) (key : ℕ → ℕ) (pool : ℕ) (before : GroupWords) → pool + 1 ≤ length (before .offs) → t .size ≤ length (before .ids)
+pub groups-enough : (len : ℕ) (t : Table) (size : ℕ) (key : ℕ → ℕ) (pool : ℕ) (before : GroupWords) → pool + 1 ≤ length (before .offs)
+    → t .size ≤ length (before .ids)
     → outcome len t size (groupsOf key (t .size) pool) before .number ≢ 4
 unfolding outcome fitting
 groups-enough len t size key pool before a b =
@@ -86,12 +90,14 @@ groups-enough len t size key pool before a b =
     (neither n (passes len t size) (refused 3) _ (λ e. omega arith)
     (rw (not-short key (t .size) pool (length (before .offs)) (length (before .ids)) a b) (λ e. omega arith)))
 
-pub methods-enough : (s : List ℕ) (h : DexHeader) (before : m.MethodWords) → h .types .size + 1 ≤ length (before .clz .offs) → h .methods .size ≤ length (before .clz .ids)
+pub methods-enough : (s : List ℕ) (h : DexHeader) (before : m.MethodWords) → h .types .size + 1 ≤ length (before .clz .offs)
+    → h .methods .size ≤ length (before .clz .ids)
     → h .strings .size + 1 ≤ length (before .name .offs) → h .methods .size ≤ length (before .name .ids) → m.outcome s h before .number ≢ 4
 unfolding m.joint firstRefusal
 methods-enough s h before a b c d e =
     ⊎-elim (groups-enough (length s) (h .methods) methodIdSize (method-class-idx s (h .methods .off)) (h .types .size) (before .clz) a b)
-    (λ z. ⊎-elim (groups-enough (length s) (h .methods) methodIdSize (method-name-idx s (h .methods .off)) (h .strings .size) (before .name) c d) (λ y. omega arith)
+    (λ z. ⊎-elim (groups-enough (length s) (h .methods) methodIdSize (method-name-idx s (h .methods .off)) (h .strings .size) (before .name) c d)
+    (λ y. omega arith)
     (first-among (m.nameOutcome s h (before .name) .number) [] 4 z))
     (first-among (m.clzOutcome s h (before .clz) .number) (m.nameOutcome s h (before .name) .number ∷ []) 4 e)
 
@@ -100,7 +106,7 @@ abbrev Not : MapOutcome → Type 0
 Not o = o .number ≢ 4
 
 at-zero : (r : Zero) (f : ℕ → MapOutcome) → ((k : ℕ) → Not (f k)) → Not (onZero r (none 5) f)
-at-zero (z.Behind n) f g = g n
+at-zero (z.After n) f g = g n
 at-zero z.Nothing f g = λ e. omega arith
 
 area-five : (s : List ℕ) (table n : ℕ) → Not (stringsArea s table n)

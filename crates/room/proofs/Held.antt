@@ -22,13 +22,15 @@ more-room = record {
   method-groups = g.methods-more;
   string-map = g.map-more;
   string-search = λ w q r r′ out out₁ out′ out₁′ F G.
-      s.found-more (searchFault (length (w .file)) 1 (length q) (w .keys)) (searchFault (length (w .file)) 1 (length q) (w .keys)) r r′ out out₁ out′ out₁′ F G (λ z. z);
+      s.found-more (searchFault (length (w .file)) 1 (length q) (w .keys)) (searchFault (length (w .file)) 1 (length q) (w .keys)) r r′ out out₁ out′
+      out₁′ F G (λ z. z);
   type-search = s.types-more;
   method-search = s.methods-more;
-  name-filter = λ f q given r r′ out out₁ out′ out₁′ F G. s.found-more (filterFault f q given) (filterFault f q given) r r′ out out₁ out′ out₁′ F G (λ z. z);
+  name-filter =
+      λ f q given r r′ out out₁ out′ out₁′ F G. s.found-more (filterFault f q given) (filterFault f q given) r r′ out out₁ out′ out₁′ F G (λ z. z);
   code-table = build-more;
   scan = scan-more;
-  locate = locate-more;
+  locate = λ s T entries answers further answers′ further′ a b. locate-more s T entries a b;
   listing = list-more;
   finder = find-more;
   request = request-more;

@@ -1,24 +1,21 @@
 -- Room for scan, locate and the listing of a slot. A start is a hit once at most; and a share's earlier shares fall, so that its list has one
 -- method more than shares are passed.
 -- Assumes nothing.
-use Prim.Native.Nat.{ℕ, zero, suc, _+_, _-_, _*_, _/_, _%_, _≤_, _<_}
+use Prim.Native.Nat.{ℕ, zero, suc, _+_, _-_, _*_, _/_, _≤_, _<_}
 use native.Mathlib.Omega.{arith}
-use mathlib.Core.Path.{_≡_, refl, ap, _∙_}
+use mathlib.Core.Path.{_≡_, refl}
 use mathlib.Core.Logic.{_≢_, ⊎-elim}
-use mathlib.Core.Bool.{Bool, true, false, _&&_}
+use mathlib.Core.Bool.{true, false, _&&_}
 use mathlib.Core.List.{List, [], _∷_}
 use mathlib.Core.Option.{Option, none, some}
 use lib.ListN.{length, length-append}
 use lib.Dec.{ltb, leb, eqb}
-use borrow.Author.Tests.{eqb-true, eqb-false, le-leb, leb-true, ltb-true}
-use Rattle.words.proofs.Shared.{case, cond-elim, and-left, and-right}
+use borrow.Author.Tests.{le-leb, leb-true, ltb-true}
+use Rattle.words.proofs.Shared.{case, cond-elim, and-right}
 use Rattle.refusal.specs.Refusals.{tooLarge}
 use Rattle.refusal.specs.Outcomes.{Outcome, refused, success}
-use Rattle.dalvik.specs.Numbers.{byte}
 use Rattle.dalvik.specs.Instructions.{Kind}
-use Rattle.dalvik.specs.Instructions.Kind.{strings, types, fields, methods}
-use Rattle.kinds.specs.Width.{widthOf}
-use Rattle.kinds.specs.Kinds.{kindNumber, kindOf, isStrings}
+use Rattle.kinds.specs.Kinds.{kindOf}
 use Rattle.code_item_scan.specs.Scan.{Hit, hitsOf, Asked, HitRoom, Scan, noScan, scanned, scannedAs, scanOut}
 use Rattle.code_table.specs.Slots.{shared, shareAt}
 use Rattle.insn_locator.specs.Locate.{Tables, locateAll, answersFrom, locateOut}
@@ -30,18 +27,21 @@ use Rattle.room.proofs.Branches.{same-else, same-then, room-then, more-
 
 -- ---- scan
 module _ (s : List ℕ) (A : Asked) (room : HitRoom) where
-  scanned-more : (room′ : HitRoom) → LongerHits room room′ → (k : Option Kind) → scannedAs s A room k .number ≡ 0 → scannedAs s A room′ k ≡ scannedAs s A room k
+  scanned-more : (room′ : HitRoom) → LongerHits room room′ → (k : Option Kind) → scannedAs s A room k .number ≡ 0
+      → scannedAs s A room′ k ≡ scannedAs s A room k
   scanned-more room′ M none = λ e. refl
   scanned-more room′ M (some kind) =
       let n : Scan → ℕ = λ o. o .number in
       let k : ℕ = length (hitsOf s kind (A .wanted) (A .from) (A .to)) in
       same-then n (leb (A .from) (A .to) && leb (A .to) (length s)) _ _ (noScan 12)
       (room-then n (leb k (room .offs) && leb k (room .marks)) (leb k (room′ .offs) && leb k (room′ .marks)) _ _ (noScan 4) (λ z. omega arith)
-      (more-both (leb k (room .offs)) (leb k (room .marks)) (leb k (room′ .offs)) (leb k (room′ .marks)) (more-leb k (room .offs) (room′ .offs) (M .offs))
+      (more-both (leb k (room .offs)) (leb k (room .marks)) (leb k (room′ .offs)) (leb k (room′ .marks))
+      (more-leb k (room .offs) (room′ .offs) (M .offs))
       (more-leb k (room .marks) (room′ .marks) (M .marks)))
       (λ z. refl))
 
-  scanned-enough : mostEntries (A .kind) (length s) ≤ room .offs → mostEntries (A .kind) (length s) ≤ room .marks → (k : Option Kind) → kindOf (A .kind) ≡ k
+  scanned-enough : mostEntries (A .kind) (length s) ≤ room .offs → mostEntries (A .kind) (length s) ≤ room .marks → (k : Option Kind)
+      → kindOf (A .kind) ≡ k
       → scannedAs s A room k .number ≢ 4
   scanned-enough a b none q = λ z. omega arith
   scanned-enough a b (some kind) q =
@@ -50,17 +50,20 @@ module _ (s : List ℕ) (A : Asked) (room : HitRoom) where
       (λ i.
       let t : A .to ≤ length s = leb-true (A .to) (length s) (and-right (leb (A .from) (A .to)) (leb (A .to) (length s)) i) in
       let few : length hits ≤ mostEntries (A .kind) (A .to - A .from) = few-hits s (A .wanted) (A .from) (A .to) (A .kind) kind q in
-      let most : mostEntries (A .kind) (A .to - A .from) ≤ mostEntries (A .kind) (length s) = words-more (A .kind) (A .to - A .from) (length s) (omega arith) in
+      let most : mostEntries (A .kind) (A .to - A .from) ≤ mostEntries (A .kind) (length s) =
+      words-more (A .kind) (A .to - A .from) (length s) (omega arith) in
       rw (le-leb (length hits) (room .offs) (omega arith), le-leb (length hits) (room .marks) (omega arith))
       (λ z. omega arith))
       (λ _ z. omega arith)
 
-pub scan-more : (s : List ℕ) (A : Asked) (room room′ : HitRoom) → LongerHits room room′ → scanOut s A room .number ≡ 0 → scanOut s A room′ ≡ scanOut s A room
+pub scan-more : (s : List ℕ) (A : Asked) (room room′ : HitRoom) → LongerHits room room′ → scanOut s A room .number ≡ 0
+    → scanOut s A room′ ≡ scanOut s A room
 unfolding scanOut
 scan-more s A room room′ M =
     same-else (λ (o : Scan). o .number) (tooLarge (length s)) (noScan 1) _ _ (scanned-more s A room room′ M (kindOf (A .kind)))
 
-pub scan-enough : (s : List ℕ) (A : Asked) (room : HitRoom) → mostEntries (A .kind) (length s) ≤ room .offs → mostEntries (A .kind) (length s) ≤ room .marks
+pub scan-enough : (s : List ℕ) (A : Asked) (room : HitRoom) → mostEntries (A .kind) (length s) ≤ room .offs
+    → mostEntries (A .kind) (length s) ≤ room .marks
     → scanOut s A room .number ≢ 4
 unfolding scanOut
 scan-enough s A room a b =
@@ -71,10 +74,10 @@ answers-not : (r : Option (List ℕ)) → answersFrom r .number ≢ 4
 answers-not none e = omega arith
 answers-not (some l) e = omega arith
 
-pub locate-more : (s : List ℕ) (T : Tables) (entries : List ℕ) (answers further answers′ further′ : ℕ) → answers ≤ answers′ → further ≤ further′
+pub locate-more : (s : List ℕ) (T : Tables) (entries : List ℕ) {answers further answers′ further′ : ℕ} → answers ≤ answers′ → further ≤ further′
     → locateOut s T entries answers further .number ≡ 0 → locateOut s T entries answers′ further′ ≡ locateOut s T entries answers further
 unfolding locateOut
-locate-more s T entries answers further answers′ further′ a b =
+locate-more s T entries {answers} {further} {answers′} {further′} a b =
     let n : Outcome → ℕ = λ o. o .number in
     let k : ℕ = length entries in
     let m : ℕ = length (T .starts) in
@@ -91,7 +94,8 @@ locate-enough s T entries answers further a b =
     (rw (le-leb (length entries) answers a, le-leb (length (T .starts)) further b) (answers-not (locateAll s T entries)))
 
 -- ---- listing
-pub list-more : (shares : List ℕ) (slot room room′ : ℕ) → room ≤ room′ → listOut shares slot room .number ≡ 0 → listOut shares slot room′ ≡ listOut shares slot room
+pub list-more : (shares : List ℕ) (slot room room′ : ℕ) → room ≤ room′ → listOut shares slot room .number ≡ 0
+    → listOut shares slot room′ ≡ listOut shares slot room
 unfolding listOut
 list-more shares slot room room′ a = by (listed shares slot)
   where

@@ -3,7 +3,7 @@
 -- Assumes nothing.
 use Prim.Native.Nat.{ℕ, zero, suc, _+_, _-_, _≤_, max}
 use native.Mathlib.Omega.{arith}
-use mathlib.Core.Path.{_≡_, refl, sym, ap, _∙_, subst}
+use mathlib.Core.Path.{_≡_, refl, sym, ap, _∙_}
 use mathlib.Core.Logic.{_≢_, ⊎-elim}
 use mathlib.Core.Bool.{Bool, true, false, cond, not, _&&_, _||_}
 use mathlib.Core.List.{List, [], _∷_, map}
@@ -75,12 +75,14 @@ module _ {P : ℕ → Type 0} where
         words = G .gives .words ∙ (ap (λ (o : Outcome). padded (length out′) (o .list)) b ∙ ap (padded (length out′)) (sym front));
       }
 
-  pub found-enough : (fault : ℕ) (r : Answer) (out out₁ : List ℕ) → Found P fault r out out₁ → fault ≢ 4 → ((xs : List ℕ) → SetOf P xs → length xs ≤ length out)
+  pub found-enough : (fault : ℕ) (r : Answer) (out out₁ : List ℕ) → Found P fault r out out₁ → fault ≢ 4
+      → ((xs : List ℕ) → SetOf P xs → length xs ≤ length out)
       → answerNumber r ≢ 4
   found-enough fault r out out₁ F n f e =
       let z : fitted fault (length out) (F .list) .number ≡ 4 = sym (F .gives .number) ∙ e in
       ⊎-elim
-      (λ (a : eqb fault 0 ≡ true). let y : _≡_ {A = ℕ} 0 4 = rw (a, le-ltb (length out) (length (F .list)) (f (F .list) (F .set))) at z in omega arith)
+      (λ (a : eqb fault 0 ≡ true). let y : _≡_ {A = ℕ} 0 4 = rw (a, le-ltb (length out) (length (F .list)) (f (F .list) (F .set))) at z in
+      omega arith)
       (λ (a : eqb fault 0 ≡ false). n (rw a at z))
       (case (eqb fault 0))
 
@@ -152,22 +154,22 @@ unfolding text.textFrom
 text-at s i = by-zero (text.firstZero s i)
   where
     by-zero : (r : Zero) → text.onZero r (text.none 5) (text.found i) .number ≢ 4
-    by-zero (z.Behind n) e = omega arith
+    by-zero (z.After n) e = omega arith
     by-zero z.Nothing e = omega arith
 
-text-behind : (k : ℕ) (s : List ℕ) (i : ℕ) → text.behindLength k s i .number ≢ 4
-unfolding text.behindLength
-text-behind zero s i = λ e. omega arith
-text-behind (suc k) s i =
+text-after : (k : ℕ) (s : List ℕ) (i : ℕ) → text.afterLength k s i .number ≢ 4
+unfolding text.afterLength
+text-after zero s i = λ e. omega arith
+text-after (suc k) s i =
     let n : text.Found → ℕ = λ f. f .number in
     neither n (ltb i (length s)) _ (text.none 6)
     (neither n (text.isLast k && ltb 0x0f (byte s i)) (text.none 10) _ (λ e. omega arith)
-    (neither n (ltb (byte s i) 128) (text.textFrom s (i + 1)) (text.behindLength k s (i + 1)) (text-at s (i + 1)) (text-behind k s (i + 1))))
+    (neither n (ltb (byte s i) 128) (text.textFrom s (i + 1)) (text.afterLength k s (i + 1)) (text-at s (i + 1)) (text-after k s (i + 1))))
     (λ e. omega arith)
 
 string-text : (s : List ℕ) (i : ℕ) → text.stringText s i .number ≢ 4
 unfolding text.stringText
-string-text s i = neither (λ (f : text.Found). f .number) (tooLarge (length s)) (text.none 1) _ (λ e. omega arith) (text-behind 5 s i)
+string-text s i = neither (λ (f : text.Found). f .number) (tooLarge (length s)) (text.none 1) _ (λ e. omega arith) (text-after 5 s i)
 
 first-fault : (s : List ℕ) (count table : ℕ) (asked : Bool) (given : List ℕ) → firstFault s count table asked given ≢ 4
 unfolding firstFault textFault
@@ -175,7 +177,8 @@ first-fault s count table asked [] = λ e. omega arith
 first-fault s count table asked (i ∷ is) =
     let n : ℕ → ℕ = λ x. x in
     let f : text.Found = text.stringText s (string-data-off s table i) in
-    neither n (eqb (nameFault s count table asked i) 0) (firstFault s count table asked is) (nameFault s count table asked i) (first-fault s count table asked is)
+    neither n (eqb (nameFault s count table asked i) 0) (firstFault s count table asked is) (nameFault s count table asked i)
+    (first-fault s count table asked is)
     (neither n (ltb i count) (textFault s asked f) 13
     (neither n (eqb (f .number) 0) _ (f .number)
     (neither n (asked && not (isAscii (text.stretchOf s f))) 11 0 (λ e. omega arith) (λ e. omega arith)) (string-text s (string-data-off s table i)))
@@ -203,17 +206,20 @@ module _ (w : Area) (q : List ℕ) where
     sf = searchFault (length (w .file)) 0 (length q) (w .keys)
 
     pub types-more : (r r′ : Answer) (b a b′ a′ : TypeWords) → Searched w q table r b a → Searched w q table r′ b′ a′
-        → length (b .strings) ≤ length (b′ .strings) → length (b .types) ≤ length (b′ .types) → answerNumber r ≡ 0 → SameList r (a .types) r′ (b′ .types) (a′ .types)
+        → length (b .strings) ≤ length (b′ .strings) → length (b .types) ≤ length (b′ .types) → answerNumber r ≡ 0
+        → SameList r (a .types) r′ (b′ .types) (a′ .types)
     unfolding sf
     types-more r r′ b a b′ a′ F G h k =
-        found-more (orShort sf (length (b .strings)) (F .strings)) (orShort sf (length (b′ .strings)) (G .strings)) r r′ (b .types) (a .types) (b′ .types) (a′ .types)
+        found-more (orShort sf (length (b .strings)) (F .strings)) (orShort sf (length (b′ .strings)) (G .strings)) r r′ (b .types) (a .types)
+        (b′ .types) (a′ .types)
         (F .types) (G .types)
         (λ z.
         ap (orShort sf (length (b′ .strings))) (set-unique (G .strings) (F .strings) (G .owners) (F .owners))
         ∙ short-more sf sf (length (b .strings)) (length (b′ .strings)) (F .strings) (λ y. y) h z)
         k
 
-    pub types-enough : (r : Answer) (b a : TypeWords) → Searched w q table r b a → length (w .keys) ≤ length (b .strings) → length (table .ids) ≤ length (b .types)
+    pub types-enough : (r : Answer) (b a : TypeWords) → Searched w q table r b a → length (w .keys) ≤ length (b .strings)
+        → length (table .ids) ≤ length (b .types)
         → answerNumber r ≢ 4
     unfolding sf
     types-enough r b a F h k =
@@ -224,24 +230,33 @@ module _ (w : Area) (q : List ℕ) where
 
 -- the words lent to a method search for the strings of the class, its types and, unless the class settles it, the strings of the name
 module _ (f class : ℕ) (b : SearchWords) (l : Lists) where
-  lent-more : (b′ : SearchWords) → length (b .strings) ≤ length (b′ .strings) → length (b .types) ≤ length (b′ .types) → lentFault f class b l ≡ 0 → lentFault f class b′ l ≡ 0
+  lent-more : (b′ : SearchWords) → length (b .strings) ≤ length (b′ .strings) → length (b .types) ≤ length (b′ .types) → lentFault f class b l ≡ 0
+      → lentFault f class b′ l ≡ 0
   unfolding lentFault
   lent-more b′ h k =
-      let by-types = short-more (orShort f (length (b .strings)) (l .of-class)) (orShort f (length (b′ .strings)) (l .of-class)) (length (b .types)) (length (b′ .types)) (l .of-types)
+      let by-types =
+      short-more (orShort f (length (b .strings)) (l .of-class)) (orShort f (length (b′ .strings)) (l .of-class)) (length (b .types))
+      (length (b′ .types)) (l .of-types)
       (short-more f f (length (b .strings)) (length (b′ .strings)) (l .of-class) (λ y. y) h) k in
       ⊎-elim
       (λ (s : settles class (length (l .of-types)) ≡ true). rw s by-types)
-      (λ (s : settles class (length (l .of-types)) ≡ false). rw s (short-more _ _ (length (b .strings)) (length (b′ .strings)) (l .of-name) by-types h))
+      (λ (s : settles class (length (l .of-types)) ≡ false). rw s
+      (short-more _ _ (length (b .strings)) (length (b′ .strings)) (l .of-name) by-types h))
       (case (settles class (length (l .of-types))))
 
-  lent-enough : f ≢ 4 → length (l .of-class) ≤ length (b .strings) → length (l .of-types) ≤ length (b .types) → length (l .of-name) ≤ length (b .strings) → lentFault f class b l ≢ 4
+  lent-enough : f ≢ 4 → length (l .of-class) ≤ length (b .strings) → length (l .of-types) ≤ length (b .types)
+      → length (l .of-name) ≤ length (b .strings) → lentFault f class b l ≢ 4
   unfolding lentFault
   lent-enough n x y z =
-      let by-types = short-enough (orShort f (length (b .strings)) (l .of-class)) (length (b .types)) (l .of-types) (short-enough f (length (b .strings)) (l .of-class) n x) y in
-      cond-elim (λ (m : ℕ). m ≢ 4) (settles class (length (l .of-types))) _ _ (λ _. by-types) (λ _. short-enough _ (length (b .strings)) (l .of-name) by-types z)
+      let by-types =
+      short-enough (orShort f (length (b .strings)) (l .of-class)) (length (b .types)) (l .of-types)
+      (short-enough f (length (b .strings)) (l .of-class) n x) y in
+      cond-elim (λ (m : ℕ). m ≢ 4) (settles class (length (l .of-types))) _ _ (λ _. by-types)
+      (λ _. short-enough _ (length (b .strings)) (l .of-name) by-types z)
 
 -- two searches for the same have the same lists
-same-lists : (k : search.Asked) {r r′ : Answer} {b a b′ a′ : SearchWords} (F : search.Searched k r b a) (G : search.Searched k r′ b′ a′) → G .lists ≡ F .lists
+same-lists : (k : search.Asked) {r r′ : Answer} {b a b′ a′ : SearchWords} (F : search.Searched k r b a) (G : search.Searched k r′ b′ a′)
+    → G .lists ≡ F .lists
 same-lists k F G =
     rw (
       set-unique (G .lists .of-class) (F .lists .of-class) (G .class-owners) (F .class-owners),
@@ -256,11 +271,13 @@ module _ (k : search.Asked) where
   methods-more r r′ b a b′ a′ F G h m n =
       let f : ℕ = search.askedFault k in
       let c : ℕ = length (k .query .class) in
-      found-more (lentFault f c b (F .lists)) (lentFault f c b′ (G .lists)) r r′ (b .methods) (a .methods) (b′ .methods) (a′ .methods) (F .found) (G .found)
+      found-more (lentFault f c b (F .lists)) (lentFault f c b′ (G .lists)) r r′ (b .methods) (a .methods) (b′ .methods) (a′ .methods) (F .found)
+      (G .found)
       (λ z. ap (lentFault f c b′) (same-lists k F G) ∙ lent-more f c b (F .lists) b′ h m z) n
 
   pub methods-enough : (r : Answer) (b a : SearchWords) → search.Searched k r b a
-      → length (k .area .keys) ≤ length (b .strings) → length (k .types .ids) ≤ length (b .types) → k .methods .size ≤ length (b .methods) → answerNumber r ≢ 4
+      → length (k .area .keys) ≤ length (b .strings) → length (k .types .ids) ≤ length (b .types) → k .methods .size ≤ length (b .methods)
+      → answerNumber r ≢ 4
   methods-enough r b a F h m n =
       let f : ℕ = search.askedFault k in
       let c : ℕ = length (k .query .class) in

@@ -40,7 +40,8 @@ sharing-few (c ∷ cs) o =
     (λ (h : eqb (c .off) o ≡ false). rw h (omega (arith, sharing-few cs o)))
     (case (eqb (c .off) o))
 
-module _ (s : List ℕ) (h : DexHeader) (codes : List Code) (P : Supposed s (h .mapoff) (h .classes .off) (h .classes .size) (h .methods .size) codes) where
+module _ (s : List ℕ) (h : DexHeader) (codes : List Code)
+    (P : Supposed s (h .mapoff) (h .classes .off) (h .classes .size) (h .methods .size) codes) where
   -- a build's room, with nothing lent to the other operations
   only : Room → Lent
   only room = record { build = room; slots = 0; starts = 0; shares = 0; hits = record { offs = 0; marks = 0 }; answers = 0; further = 0 }
@@ -52,11 +53,13 @@ module _ (s : List ℕ) (h : DexHeader) (codes : List Code) (P : Supposed s (h .
       (build-is s h codes P strings [] (only room) (table-enough P room (M .starts) (M .triples) (M .slots) (M .shares)))
 
   -- a kind that is none is refused by the scan
-  unknown : (k : ℕ) (wanted : List ℕ) (w : FindWords) → Enough (length s) (h .methods .size) k w → kindOf k ≡ none → findOut s h k wanted (lengthsOf w) .number ≡ 2
+  unknown : (k : ℕ) (wanted : List ℕ) (w : FindWords) → Enough (length s) (h .methods .size) k w → kindOf k ≡ none
+      → findOut s h k wanted (lengthsOf w) .number ≡ 2
   unfolding searchOut scanOut
   unknown k wanted w E e =
       let B : Build = buildOut s h (roomOf (w .table)) in
-      let b : B .number ≡ 0 = builds (roomOf (w .table)) (record { starts = E .starts; triples = E .triples; slots = E .slots; shares = E .shares }) in
+      let b : B .number ≡ 0 =
+      builds (roomOf (w .table)) (record { starts = E .starts; triples = E .triples; slots = E .slots; shares = E .shares }) in
       ap (λ (o : Find). o .number) (find-is s h k wanted (lengthsOf w) b)
       ∙ (found-number B (searchOf s k wanted (lengthsOf w) B) ∙ rw (le-ltb largestFile (length s) (P .small), e))
 

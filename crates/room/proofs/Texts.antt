@@ -2,24 +2,24 @@
 -- Assumes nothing.
 use Prim.Native.Nat.{ℕ, zero, suc, _+_, _≤_}
 use native.Mathlib.Omega.{arith}
-use mathlib.Core.Path.{_≡_, refl, ap, _∙_}
+use mathlib.Core.Path.{_≡_, refl}
 use mathlib.Core.Logic.{⊎-elim}
-use mathlib.Core.Bool.{Bool, true, false, cond, _&&_}
+use mathlib.Core.Bool.{true, false, _&&_}
 use mathlib.Core.List.{List}
 use lib.ListN.{length, getD}
 use lib.Dec.{ltb, eqb}
-use borrow.Author.Tests.{eqb-true, eqb-false, eq-eqb}
+use borrow.Author.Tests.{eqb-true, eqb-false}
 use Rattle.words.proofs.Shared.{case}
 use Rattle.refusal.specs.Outcomes.{Outcome, refused}
 use Rattle.slot_listing.specs.Listing.{listOut}
-use Rattle.refs_program.specs.Text.{entryOut}
 use Rattle.refs_program.proofs.TextRoom.{entry-room}
 use Rattle.refs_program.specs.Line.{Entries, lineBy, lineOut, alike, lineAt, firstRefused, triedOut}
 use Rattle.room.proofs.Branches.{same-then}
 use Rattle.room.proofs.Located.{list-more}
 
 module _ (words bytes words′ bytes′ : ℕ) (a : words ≤ words′) (b : bytes ≤ bytes′) where
-  by-more : (off idx : ℕ) (o o′ : Outcome) → (o .number ≡ 0 → o′ ≡ o) → lineBy off idx o bytes .number ≡ 0 → lineBy off idx o′ bytes′ ≡ lineBy off idx o bytes
+  by-more : (off idx : ℕ) (o o′ : Outcome) → (o .number ≡ 0 → o′ ≡ o) → lineBy off idx o bytes .number ≡ 0
+      → lineBy off idx o′ bytes′ ≡ lineBy off idx o bytes
   by-more off idx o o′ f =
       ⊎-elim
       (λ (t : eqb (o .number) 0 ≡ true) e.

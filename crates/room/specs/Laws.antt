@@ -1,11 +1,11 @@
 -- What is stated of room in lent slices: a longer slice never turns a success into a refusal, and with the lengths of Enough.antt no
 -- operation refuses 4. Where a contract names an outcome, the law is of the outcome; where it is a relation, of any answer that it allows.
 -- Assumes nothing.
-use Prim.Native.Nat.{ℕ, _^_, _≤_, _<_}
+use Prim.Native.Nat.{ℕ, _^_, _≤_}
 use mathlib.Core.Path.{_≡_}
 use mathlib.Core.Logic.{_≢_}
 use mathlib.Core.List.{List, List·Memᴰ}
-use lib.ListN.{length, getD, take}
+use lib.ListN.{length, take}
 use Rattle.words.specs.Padded.{padded}
 use Rattle.refusal.specs.Refusals.{answerNumber, answerCount}
 use Rattle.refusal.specs.declared.Answer.{Answer}
@@ -40,7 +40,9 @@ use Rattle.refs_program.specs.Text.{headOut, entryOut, refusalOut}
 use Rattle.refs_program.specs.Line.{Entries, lineAt, triedOut}
 use Rattle.completeness.specs.Completeness.{Supposed, FindWords, mostEntries, Enough, sharing}
 use Rattle.findrefs.specs.Find.{Lengths, lengthsOf, findOut}
-use Rattle.room.specs.Enough.{typeOffsets, typeIds, classOffsets, classIds, nameOffsets, nameIds, mapKeys, stringsFound, typesFound, methodsFound, namesKept, startWords, slotWords, codeWords, answerWords, furtherWords, listedWords, requestWords, buildRoom, slotMethods}
+use Rattle.room.specs.Enough.{typeOffsets, typeIds, classOffsets, classIds, nameOffsets, nameIds, mapKeys}
+use Rattle.room.specs.Enough.{stringsFound, typesFound, methodsFound, namesKept, requestWords}
+use Rattle.room.specs.Enough.{startWords, slotWords, codeWords, answerWords, furtherWords, listedWords, buildRoom, slotMethods}
 
 -- ---- slices that are each at least as long
 pub record LongerGroups (a b : GroupWords) : Type 0 where
@@ -97,7 +99,8 @@ pub record MoreRoom : Type 0 where
       → length out ≤ length out′ → answerNumber r ≡ 0 → SameList r out₁ r′ out′ out₁′
   pub code-table : (s : List ℕ) (h : DexHeader) (room room′ : Room) → Longer room room′ → buildOut s h room .number ≡ 0
       → buildOut s h room′ ≡ buildOut s h room
-  pub scan : (s : List ℕ) (A : ScanAsked) (room room′ : HitRoom) → LongerHits room room′ → scanOut s A room .number ≡ 0 → scanOut s A room′ ≡ scanOut s A room
+  pub scan : (s : List ℕ) (A : ScanAsked) (room room′ : HitRoom) → LongerHits room room′ → scanOut s A room .number ≡ 0
+      → scanOut s A room′ ≡ scanOut s A room
   pub locate : (s : List ℕ) (T : Tables) (entries : List ℕ) (answers further answers′ further′ : ℕ) → answers ≤ answers′ → further ≤ further′
       → locateOut s T entries answers further .number ≡ 0
       → locateOut s T entries answers′ further′ ≡ locateOut s T entries answers further
@@ -146,8 +149,8 @@ pub record NoFour : Type 0 where
   pub code-table : (s : List ℕ) (h : DexHeader) (room : Room) → startWords h ≤ room .starts → slotWords (length s) ≤ room .slots
       → codeWords (codesFound (codesOf s h)) ≤ room .triples → codeWords (codesFound (codesOf s h)) ≤ room .shares → codesFound (codesOf s h) ≤ 2 ^ 31
       → buildOut s h room .number ≢ 4
-  pub scan : (s : List ℕ) (A : ScanAsked) (room : HitRoom) → mostEntries (A .kind) (length s) ≤ room .offs → mostEntries (A .kind) (length s) ≤ room .marks
-      → scanOut s A room .number ≢ 4
+  pub scan : (s : List ℕ) (A : ScanAsked) (room : HitRoom) → mostEntries (A .kind) (length s) ≤ room .offs
+      → mostEntries (A .kind) (length s) ≤ room .marks → scanOut s A room .number ≢ 4
   pub locate : (s : List ℕ) (T : Tables) (entries : List ℕ) (answers further : ℕ) → answerWords entries ≤ answers → furtherWords (T .starts) ≤ further
       → locateOut s T entries answers further .number ≢ 4
   pub listing : (shares : List ℕ) (slot room : ℕ) → listedWords shares ≤ room → listOut shares slot room .number ≢ 4

@@ -1,4 +1,4 @@
-# A use of a phrase by const-string and one by const-string/jumbo, and a switch table behind the code.
+# A use of a phrase by const-string and one by const-string/jumbo, and a switch table after the code.
 .class public Lpump/FaultScreen;
 .super Lpump/Screen;
 

@@ -41,12 +41,22 @@ module _ (n : ℕ) (ws : List ℕ) (k : ℕ) where
     chain-back : k < earlierWord ws k → chain (suc n) ws k ≡ none
     unfolding chain
     chain-back h =
-        rw (le-leb (3 * k + 3) (length ws) (omega arith), ne-eqb (earlierWord ws k) 0 (λ z. omega arith), le-ltb (earlierWord ws k - 1) k (omega arith))
+        rw (
+          le-leb (3 * k + 3) (length ws) (omega arith),
+          ne-eqb (earlierWord ws k) 0 (λ z. omega arith),
+          le-ltb (earlierWord ws k - 1) k
+              (omega arith),
+        )
 
     chain-on : 0 < earlierWord ws k → earlierWord ws k ≤ k → chain (suc n) ws k ≡ snocTo (lastWord ws k) (chain n ws (earlierWord ws k - 1))
     unfolding chain
     chain-on p h =
-        rw (le-leb (3 * k + 3) (length ws) (omega arith), ne-eqb (earlierWord ws k) 0 (λ z. omega arith), lt-ltb (earlierWord ws k - 1) k (omega arith))
+        rw (
+          le-leb (3 * k + 3) (length ws) (omega arith),
+          ne-eqb (earlierWord ws k) 0 (λ z. omega arith),
+          lt-ltb (earlierWord ws k - 1) k
+              (omega arith),
+        )
 
 -- a share is outside, the last of its chain, one with an earlier share that isn't earlier, or goes on
 pub data Share (ws : List ℕ) (k : ℕ) : Type 0 where
@@ -97,7 +107,8 @@ module _ (ws : List ℕ) (k : ℕ) where
     pub share-goes : 0 < earlierWord ws k → earlierWord ws k ≤ k → methodsOf ws k ≡ snocTo (lastWord ws k) (methodsOf ws (earlierWord ws k - 1))
     unfolding methodsOf
     share-goes p h =
-        chain-on k ws k inside p h ∙ ap (snocTo (lastWord ws k)) (enough ws k (suc (earlierWord ws k - 1)) (earlierWord ws k - 1) (omega arith) (omega arith))
+        chain-on k ws k inside p h ∙ ap (snocTo (lastWord ws k))
+        (enough ws k (suc (earlierWord ws k - 1)) (earlierWord ws k - 1) (omega arith) (omega arith))
 
 -- ---- how many
 
@@ -144,11 +155,12 @@ pub data HasList (ws : List ℕ) (k : ℕ) (l : List ℕ) : Type 0 where
   has-ends : Ends ws k l → HasList ws k l
   has-goes : Goes ws k l → HasList ws k l
 
-goes-by : (ws : List ℕ) (k : ℕ) (l : List ℕ) → methodsOf ws k ≡ some l → k < length ws / 3 → 0 < earlierWord ws k → earlierWord ws k ≤ k
-    → (r : Option (List ℕ)) → methodsOf ws (earlierWord ws k - 1) ≡ r → Goes ws k l
-goes-by ws k l has h p b none e = never l (sym (share-goes ws k h p b ∙ ap (snocTo (lastWord ws k)) e) ∙ has)
-goes-by ws k l has h p b (some m) e =
-    record {
+goes-by : (ws : List ℕ) (k : ℕ) (l : List ℕ) → methodsOf ws k ≡ some l → k < length ws / 3 → 0 < earlierWord ws k → earlierWord ws k ≤ k → Goes ws k l
+goes-by ws k l has h p b = by (methodsOf ws (earlierWord ws k - 1)) refl
+  where
+    by : (r : Option (List ℕ)) → methodsOf ws (earlierWord ws k - 1) ≡ r → Goes ws k l
+    by none e = never l (sym (share-goes ws k h p b ∙ ap (snocTo (lastWord ws k)) e) ∙ has)
+    by (some m) e = record {
       inside = h;
       some-earlier = p;
       earlier = b;
@@ -161,7 +173,7 @@ has-by : (ws : List ℕ) (k : ℕ) (l : List ℕ) → methodsOf ws k ≡ some l 
 has-by ws k l has (outside h) = never l (sym (share-outside ws k h) ∙ has)
 has-by ws k l has (back h b) = never l (sym (share-back ws k h b) ∙ has)
 has-by ws k l has (ends h e) = has-ends (record { inside = h; list = ap listBy (sym has ∙ share-ends ws k h e) })
-has-by ws k l has (goes h p b) = has-goes (goes-by ws k l has h p b (methodsOf ws (earlierWord ws k - 1)) refl)
+has-by ws k l has (goes h p b) = has-goes (goes-by ws k l has h p b)
 
 pub has-list : (ws : List ℕ) (k : ℕ) (l : List ℕ) → methodsOf ws k ≡ some l → HasList ws k l
 has-list ws k l has = has-by ws k l has (share ws k)

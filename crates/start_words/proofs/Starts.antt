@@ -1,21 +1,24 @@
 -- Laws of start words, which open their definitions; nothing else does.
 --     start-is                              the word itself, as it lies today
 --     has-start, has-none, has-true, has-false    who has start words
+--     count-first, has-first, start-first   those of the first methods
+--     first-all, first-padded               where there are no more, and where there are zeros after them
 --     length-with, start-same, start-other  a start stored
 --     start-padded, with-padded             in a list with zeros after it
 --     count-none, start-none, none-padded   methods without code
 -- Assumes nothing.
-use Prim.Native.Nat.{ℕ, zero, suc, _<_, _≤_}
+use Prim.Native.Nat.{ℕ, zero, suc, _-_, _<_, _≤_}
+use native.Mathlib.Omega.{arith}
 use mathlib.Core.Path.{_≡_, refl}
 use mathlib.Core.Logic.{_≢_}
 use mathlib.Core.Bool.{true, false}
 use mathlib.Core.List.{List}
 use lib.ListN.{length, getD, length-set, length-replicate}
-use lib.Seq.{getD-set-same, getD-set-other}
+use lib.Seq.{getD-set-same, getD-set-other, take-at, take-all, length-take-le, getD-take}
 use borrow.Author.Tests.{lt-ltb, le-ltb, ltb-true, ltb-false}
 use Rattle.words.specs.Padded.{zeros, padded}
 use Rattle.words.proofs.Padded.{padded-at, padded-set, padded-zeros}
-use Rattle.start_words.specs.Starts.{methodsIn, startCount, hasStart, startOf, withStart, noStarts}
+use Rattle.start_words.specs.Starts.{methodsIn, startCount, hasStart, startOf, firstStarts, withStart, noStarts}
 
 module _ (ws : List ℕ) (m : ℕ) where
   pub start-is : startOf ws m ≡ getD ws m 0
@@ -41,6 +44,26 @@ module _ (ws : List ℕ) (m : ℕ) where
   pub start-padded : (n : ℕ) → startOf (padded n ws) m ≡ startOf ws m
   unfolding startOf
   start-padded n = padded-at n ws m
+
+module _ (n : ℕ) (ws : List ℕ) where
+  pub first-all : startCount ws ≤ n → firstStarts n ws ≡ ws
+  unfolding firstStarts
+  first-all h = take-all n ws h
+
+  pub first-padded : (k : ℕ) → startCount ws ≡ n → firstStarts n (padded k ws) ≡ ws
+  unfolding firstStarts padded
+  first-padded k h = take-at ws (zeros (k - length ws)) n h
+
+  pub count-first : n ≤ startCount ws → startCount (firstStarts n ws) ≡ n
+  unfolding firstStarts
+  count-first h = length-take-le n ws h
+
+  pub has-first : (m : ℕ) → m < n → n ≤ startCount ws → hasStart (firstStarts n ws) m ≡ true
+  has-first m l h = has-start (firstStarts n ws) m (omega (arith, count-first h))
+
+  pub start-first : (m : ℕ) → m < n → startOf (firstStarts n ws) m ≡ startOf ws m
+  unfolding firstStarts startOf
+  start-first m l = getD-take n ws m 0 l
 
 module _ (ws : List ℕ) (m v : ℕ) where
   pub length-with : length (withStart ws m v) ≡ length ws

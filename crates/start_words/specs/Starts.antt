@@ -4,7 +4,7 @@
 use Prim.Native.Nat.{ℕ}
 use mathlib.Core.List.{List}
 use mathlib.Core.Bool.{Bool}
-use lib.ListN.{length, getD, set}
+use lib.ListN.{length, getD, set, take}
 use lib.Dec.{ltb}
 use Rattle.words.specs.Padded.{zeros}
 
@@ -22,6 +22,10 @@ hasStart ws m = ltb m (startCount ws)
 -- where its array starts; 0 without start words
 unfoldable pub startOf : List ℕ → ℕ → ℕ
 startOf ws m = getD ws m 0
+
+-- those of the first n methods; all of them where there are no more
+unfoldable pub firstStarts : ℕ → List ℕ → List ℕ
+firstStarts n ws = take n ws
 
 -- its array starts at v; the same list without start words for m
 unfoldable pub withStart : List ℕ → ℕ → ℕ → List ℕ

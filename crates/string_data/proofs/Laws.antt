@@ -18,23 +18,23 @@ use Rattle.memchr.proofs.Firsts.{split}
 use Rattle.words.proofs.Shared.{cond-elim}
 use Rattle.dalvik.specs.Numbers.{byte}
 use Rattle.refusal.specs.Refusals.{tooLarge}
-use Rattle.string_data.specs.Text.{zeroOf, firstZero, further, onZero, Found, none, found, textFrom, isLast, behindLength, stringText, stretchOf}
+use Rattle.string_data.specs.Text.{zeroOf, firstZero, further, onZero, Found, none, found, textFrom, isLast, afterLength, stringText, stretchOf}
 use Rattle.string_data.specs.declared.Zero.{Zero}
 use Rattle.string_data.specs.declared.Zero.the-variants as z
 
 -- n bytes passed, and then what is found
 ahead : ℕ → Zero → Zero
-ahead n (z.Behind m) = z.Behind (n + m)
+ahead n (z.After m) = z.After (n + m)
 ahead n z.Nothing = z.Nothing
 
 ahead-zero : (r : Zero) → ahead 0 r ≡ r
 unfolding ahead
-ahead-zero (z.Behind m) = ap z.Behind (zero-add m)
+ahead-zero (z.After m) = ap z.After (zero-add m)
 ahead-zero z.Nothing = refl
 
 ahead-further : (n : ℕ) (r : Zero) → ahead (n + 1) r ≡ ahead n (further r)
 unfolding ahead
-ahead-further n (z.Behind m) = ap z.Behind (omega arith)
+ahead-further n (z.After m) = ap z.After (omega arith)
 ahead-further n z.Nothing = refl
 
 module _ (s : List ℕ) (p i : ℕ) where
@@ -49,18 +49,19 @@ module _ (s : List ℕ) (p i : ℕ) where
   unfolding zeroOf firstZero
   zero-later h t = rw (add-one i, drop-cons s i 0 h, ne-eqb _ _ t)
 
-  pub zero-here : i < length s → byte s i ≡ 0 → firstZero s i ≡ z.Behind 0
+  pub zero-here : i < length s → byte s i ≡ 0 → firstZero s i ≡ z.After 0
   unfolding zeroOf firstZero
   zero-here h t = rw (drop-cons s i 0 h, eq-eqb _ _ t)
 
-  zero-again : (r : Zero) → i < length s → (byte s i ≡ 0 → ⊥) → p ≤ i → ahead (i - p) (firstZero s i) ≡ r → ahead (i + 1 - p) (firstZero s (i + 1)) ≡ r
+  zero-again : (r : Zero) → i < length s → (byte s i ≡ 0 → ⊥) → p ≤ i → ahead (i - p) (firstZero s i) ≡ r
+      → ahead (i + 1 - p) (firstZero s (i + 1)) ≡ r
   zero-again r h t q e =
       let z : i + 1 - p ≡ i - p + 1 = omega arith in
       ap (λ (n : ℕ). ahead n (firstZero s (i + 1))) z ∙ (ahead-further (i - p) _ ∙ (ap (ahead (i - p)) (sym (zero-later h t)) ∙ e))
 
-  zero-stop : (r : Zero) → i < length s → byte s i ≡ 0 → p ≤ i → ahead (i - p) (firstZero s i) ≡ r → z.Behind (i - p) ≡ r
+  zero-stop : (r : Zero) → i < length s → byte s i ≡ 0 → p ≤ i → ahead (i - p) (firstZero s i) ≡ r → z.After (i - p) ≡ r
   unfolding ahead
-  zero-stop r h t q e = ap z.Behind (omega arith) ∙ (ap (ahead (i - p)) (sym (zero-here h t)) ∙ e)
+  zero-stop r h t q e = ap z.After (omega arith) ∙ (ap (ahead (i - p)) (sym (zero-here h t)) ∙ e)
 
 -- the first zero from p on, where the search for it ends at r
 module _ (s : List ℕ) (p r : ℕ) (f : First (Either 0 0 s) p (min (length s) (length s)) r) where
@@ -71,7 +72,9 @@ module _ (s : List ℕ) (p r : ℕ) (f : First (Either 0 0 s) p (min (length s) 
   passed (suc n) h =
       let e : p + n + 1 ≡ p + suc n = omega arith in
       let l : r ≤ length s = omega (arith, f .inside) in
-      let q = zero-again s p (p + n) _ (omega arith) (λ z. f .none-before (p + n) (omega arith) (omega arith) (inl z)) (omega arith) (passed n (omega arith)) in
+      let q =
+      zero-again s p (p + n) _ (omega arith) (λ z. f .none-before (p + n) (omega arith) (omega arith) (inl z)) (omega arith)
+      (passed n (omega arith)) in
       subst (λ (i : ℕ). ahead (i - p) (firstZero s i) ≡ firstZero s p) e q
 
   up-to : p ≤ r → ahead (r - p) (firstZero s r) ≡ firstZero s p
@@ -79,9 +82,9 @@ module _ (s : List ℕ) (p r : ℕ) (f : First (Either 0 0 s) p (min (length s) 
       let e : p + (r - p) ≡ r = omega arith in
       subst (λ (i : ℕ). ahead (i - p) (firstZero s i) ≡ firstZero s p) e (passed (r - p) (omega arith))
 
-  pub zero-found : r < length s → z.Behind (r - p) ≡ firstZero s p
+  pub zero-found : r < length s → z.After (r - p) ≡ firstZero s p
   zero-found h =
-      let a : p ≤ r = f .behind (omega arith) in
+      let a : p ≤ r = f .after (omega arith) in
       zero-stop s p r _ h (⊎-elim (λ e. e) (λ e. e) (f .here (omega arith))) a (up-to a)
 
   pub zero-nowhere : length s ≤ r → z.Nothing ≡ firstZero s p
@@ -90,12 +93,12 @@ module _ (s : List ℕ) (p r : ℕ) (f : First (Either 0 0 s) p (min (length s) 
 
 -- a zero that is found stands inside the file
 ZeroIn : ℕ → Zero → Type 0
-ZeroIn k (z.Behind n) = n < k
+ZeroIn k (z.After n) = n < k
 ZeroIn k z.Nothing = Unit {0}
 
 further-in : (k : ℕ) (r : Zero) → ZeroIn k r → ZeroIn (suc k) (further r)
 unfolding ZeroIn
-further-in k (z.Behind n) h = omega arith
+further-in k (z.After n) h = omega arith
 further-in k z.Nothing h = tt
 
 zeroOf-in : (s : List ℕ) → ZeroIn (length s) (zeroOf s)
@@ -103,14 +106,14 @@ unfolding zeroOf ZeroIn
 zeroOf-in [] = tt
 zeroOf-in (b ∷ r) = cond-elim (ZeroIn (suc (length r))) (eqb b 0) _ _ (λ _. omega arith) (λ _. further-in (length r) (zeroOf r) (zeroOf-in r))
 
-pub zero-in : (s : List ℕ) (i n : ℕ) → z.Behind n ≡ firstZero s i → i + n < length s
+pub zero-in : (s : List ℕ) (i n : ℕ) → z.After n ≡ firstZero s i → i + n < length s
 unfolding firstZero ZeroIn
 zero-in s i n e =
-    let h : ZeroIn (length (drop i s)) (z.Behind n) = subst (ZeroIn (length (drop i s))) (sym e) (zeroOf-in (drop i s)) in
+    let h : ZeroIn (length (drop i s)) (z.After n) = subst (ZeroIn (length (drop i s))) (sym e) (zeroOf-in (drop i s)) in
     omega (arith, length-drop i s, h)
 
 module _ (s : List ℕ) (i : ℕ) where
-  pub text-ends : (n : ℕ) → z.Behind n ≡ firstZero s i → found i n ≡ textFrom s i
+  pub text-ends : (n : ℕ) → z.After n ≡ firstZero s i → found i n ≡ textFrom s i
   unfolding textFrom
   text-ends n e = rw (← e)
 
@@ -119,33 +122,33 @@ module _ (s : List ℕ) (i : ℕ) where
   text-open e = rw (← e)
 
   -- k length bytes may come
-  pub length-off : (k : ℕ) → 0 < k → length s ≤ i → none 6 ≡ behindLength k s i
-  unfolding behindLength
+  pub length-off : (k : ℕ) → 0 < k → length s ≤ i → none 6 ≡ afterLength k s i
+  unfolding afterLength
   length-off zero p h = absurd (omega arith)
   length-off (suc k) p h = simp (le-ltb _ _ h)
 
-  pub length-over : (k : ℕ) → 0 < k → i < length s → k - 1 ≡ 0 → 15 < byte s i → none 10 ≡ behindLength k s i
-  unfolding behindLength
+  pub length-over : (k : ℕ) → 0 < k → i < length s → k - 1 ≡ 0 → 15 < byte s i → none 10 ≡ afterLength k s i
+  unfolding afterLength
   length-over zero p h l b = absurd (omega arith)
   length-over (suc zero) p h l b = simp (lt-ltb _ _ h, lt-ltb _ _ b)
   length-over (suc (suc k)) p h l b = absurd (omega arith)
 
-  pub length-ends : (k : ℕ) → 0 < k → i < length s → (k - 1 ≡ 0 → byte s i ≤ 15) → byte s i < 128 → textFrom s (i + 1) ≡ behindLength k s i
-  unfolding behindLength
+  pub length-ends : (k : ℕ) → 0 < k → i < length s → (k - 1 ≡ 0 → byte s i ≤ 15) → byte s i < 128 → textFrom s (i + 1) ≡ afterLength k s i
+  unfolding afterLength
   length-ends zero p h l b = absurd (omega arith)
   length-ends (suc zero) p h l b = simp (lt-ltb _ _ h, le-ltb _ _ (l refl), lt-ltb _ _ b)
   length-ends (suc (suc k)) p h l b = simp (lt-ltb _ _ h, lt-ltb _ _ b)
 
-  pub length-more : (k : ℕ) → 0 < k → i < length s → (k - 1 ≡ 0 → byte s i ≤ 15) → 128 ≤ byte s i → behindLength (k - 1) s (i + 1) ≡ behindLength k s i
-  unfolding behindLength
+  pub length-more : (k : ℕ) → 0 < k → i < length s → (k - 1 ≡ 0 → byte s i ≤ 15) → 128 ≤ byte s i → afterLength (k - 1) s (i + 1) ≡ afterLength k s i
+  unfolding afterLength
   length-more zero p h l b = absurd (omega arith)
   length-more (suc zero) p h l b = absurd (omega (arith, l refl))
   length-more (suc (suc k)) p h l b =
       let e : suc (suc k) - 1 ≡ suc k = omega arith in
-      ap (λ (n : ℕ). behindLength n s (i + 1)) e ∙ simp (lt-ltb _ _ h, le-ltb _ _ b)
+      ap (λ (n : ℕ). afterLength n s (i + 1)) e ∙ simp (lt-ltb _ _ h, le-ltb _ _ b)
 
-  pub length-none : (k : ℕ) → k ≤ 0 → none 10 ≡ behindLength k s i
-  unfolding behindLength
+  pub length-none : (k : ℕ) → k ≤ 0 → none 10 ≡ afterLength k s i
+  unfolding afterLength
   length-none zero h = refl
   length-none (suc k) h = absurd (omega arith)
 
@@ -153,7 +156,7 @@ module _ (s : List ℕ) (i : ℕ) where
   unfolding stringText
   too-large e = rw e
 
-  pub small-enough : tooLarge (length s) ≡ false → (f : Found) → f ≡ behindLength 5 s i → f ≡ stringText s i
+  pub small-enough : tooLarge (length s) ≡ false → (f : Found) → f ≡ afterLength 5 s i → f ≡ stringText s i
   unfolding stringText
   small-enough e f p = rw e p
 
@@ -167,25 +170,25 @@ refused-inside s r h e = absurd (omega arith)
 
 text-inside : (s : List ℕ) (i : ℕ) (r : Zero) → firstZero s i ≡ r → Inside s (onZero r (none 5) (found i))
 unfolding Inside
-text-inside s i (z.Behind n) e _ = zero-in s i n (sym e)
+text-inside s i (z.After n) e _ = zero-in s i n (sym e)
 text-inside s i z.Nothing e p = absurd (omega (arith, p))
 
 from-inside : (s : List ℕ) (i : ℕ) → Inside s (textFrom s i)
 unfolding textFrom
 from-inside s i = text-inside s i (firstZero s i) refl
 
-behind-inside : (k : ℕ) (s : List ℕ) (i : ℕ) → Inside s (behindLength k s i)
-unfolding behindLength
-behind-inside zero s i = refused-inside s 10 (omega arith)
-behind-inside (suc k) s i =
+after-inside : (k : ℕ) (s : List ℕ) (i : ℕ) → Inside s (afterLength k s i)
+unfolding afterLength
+after-inside zero s i = refused-inside s 10 (omega arith)
+after-inside (suc k) s i =
     cond-elim (Inside s) (ltb i (length s)) _ _
     (λ _. cond-elim (Inside s) (isLast k && ltb 0x0f (byte s i)) _ _ (λ _. refused-inside s 10 (omega arith))
-    (λ _. cond-elim (Inside s) (ltb (byte s i) 128) _ _ (λ _. from-inside s (i + 1)) (λ _. behind-inside k s (i + 1))))
+    (λ _. cond-elim (Inside s) (ltb (byte s i) 128) _ _ (λ _. from-inside s (i + 1)) (λ _. after-inside k s (i + 1))))
     (λ _. refused-inside s 6 (omega arith))
 
 string-inside : (s : List ℕ) (i : ℕ) → Inside s (stringText s i)
 unfolding stringText
-string-inside s i = cond-elim (Inside s) (tooLarge (length s)) _ _ (λ _. refused-inside s 1 (omega arith)) (λ _. behind-inside 5 s i)
+string-inside s i = cond-elim (Inside s) (tooLarge (length s)) _ _ (λ _. refused-inside s 1 (omega arith)) (λ _. after-inside 5 s i)
 
 pub inside : (s : List ℕ) (i a n : ℕ) → found a n ≡ stringText s i → a + n < length s
 unfolding Inside

@@ -15,13 +15,13 @@ use Rattle.string_data.specs.declared.StringText.{StringText}
 use Rattle.string_data.specs.declared.StringText.the-variants as t
 
 abbrev pub further : Zero → Zero
-further (z.Behind n) = z.Behind (1 + n)
+further (z.After n) = z.After (1 + n)
 further z.Nothing = z.Nothing
 
 -- how many bytes stand before the first zero
 unfoldable pub zeroOf : List ℕ → Zero
 zeroOf [] = z.Nothing
-zeroOf (b ∷ r) = cond (eqb b 0) (z.Behind 0) (further (zeroOf r))
+zeroOf (b ∷ r) = cond (eqb b 0) (z.After 0) (further (zeroOf r))
 
 -- the same from i on
 unfoldable pub firstZero : List ℕ → ℕ → Zero
@@ -29,7 +29,7 @@ firstZero s i = zeroOf (drop i s)
 
 -- going on after a search for a zero: a otherwise, or g of the bytes before it
 abbrev pub onZero {ℓ} : {A : Type ℓ} → Zero → A → (ℕ → A) → A
-onZero (z.Behind n) a g = g n
+onZero (z.After n) a g = g n
 onZero z.Nothing a g = a
 
 -- the refusal's number, 0 for success; where the text starts, and how many bytes it has
@@ -59,16 +59,16 @@ isLast zero = true
 isLast (suc k) = false
 
 -- the text after the length bytes at i, of which k may come; 6: one is not inside the file; 10: the fifth is above 0x0f
-unfoldable pub behindLength : ℕ → List ℕ → ℕ → Found
-behindLength zero s i = none 10
-behindLength (suc k) s i =
+unfoldable pub afterLength : ℕ → List ℕ → ℕ → Found
+afterLength zero s i = none 10
+afterLength (suc k) s i =
     cond (ltb i (length s))
-    (cond (isLast k && ltb 0x0f (byte s i)) (none 10) (cond (ltb (byte s i) 128) (textFrom s (i + 1)) (behindLength k s (i + 1))))
+    (cond (isLast k && ltb 0x0f (byte s i)) (none 10) (cond (ltb (byte s i) 128) (textFrom s (i + 1)) (afterLength k s (i + 1))))
     (none 6)
 
 -- the text of the string data at i
 unfoldable pub stringText : List ℕ → ℕ → Found
-stringText s i = cond (tooLarge (length s)) (none 1) (behindLength 5 s i)
+stringText s i = cond (tooLarge (length s)) (none 1) (afterLength 5 s i)
 
 -- that very stretch of the file: a refusal has no bytes
 abbrev pub stretchOf : List ℕ → Found → List ℕ

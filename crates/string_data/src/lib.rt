@@ -6,7 +6,7 @@ ghost use Rattle.string_data.specs.Text.{firstZero, says, textFrom, stri
 
 // How many bytes stand before the first zero byte.
 pub enum Zero {
-    Behind(usize),
+    After(usize),
     Nothing,
 }
 
@@ -22,7 +22,7 @@ pub fn first_zero(file: &[u8], from: usize) -> Zero
 {
     let at = memchr::memchr(0, file, from, file.len());
     if at < file.len() {
-        return Zero::Behind(at - from);
+        return Zero::After(at - from);
     }
     Zero::Nothing
 }
@@ -32,7 +32,7 @@ fn text_from(file: &[u8], start: usize) -> StringText
     ensures { λ r. ⌜ says r ≡ textFrom (now (file .entry)) start ⌝ }
 {
     match first_zero(file, start) {
-        Zero::Behind(len) => StringText::Text { start, len },
+        Zero::After(len) => StringText::Text { start, len },
         Zero::Nothing => StringText::Refused(Refusal::StringOutside),
     }
 }

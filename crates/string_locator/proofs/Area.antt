@@ -33,7 +33,7 @@ module _ (s : List ℕ) (table n : ℕ) where
 
   module _ (lo hi : ℕ) (low : (i : ℕ) → i < n → lo ≤ string-data-off s table i) (high : (i : ℕ) → i < n → string-data-off s table i ≤ hi) (p : lo ≤ hi) where
     zero-within : (k : ℕ) → 1 ≤ k → (r : Zero) → r ≡ firstZero s (hi + k) → Within s table (onZero r (none 5) (λ (m : ℕ). area lo (hi + k + m + 1) n))
-    zero-within k q (z.Behind m) e =
+    zero-within k q (z.After m) e =
         record {
           forward = omega arith;
           inside = omega (arith, zero-in s (hi + k) m e);
@@ -41,7 +41,8 @@ module _ (s : List ℕ) (table n : ℕ) where
         }
     zero-within k q z.Nothing e = none-within 5
 
-    len-within : (r : Length) → r ≡ lengthBytes s hi → Within s table (onLength r (none 5) (λ (k : ℕ). onZero (firstZero s (hi + k)) (none 5) (λ (m : ℕ). area lo (hi + k + m + 1) n)))
+    len-within : (r : Length) → r ≡ lengthBytes s hi
+        → Within s table (onLength r (none 5) (λ (k : ℕ). onZero (firstZero s (hi + k)) (none 5) (λ (m : ℕ). area lo (hi + k + m + 1) n)))
     len-within (l.Bytes k) e = zero-within k (length-in s hi k e .0) (firstZero s (hi + k)) refl
     len-within l.Nothing e = none-within 5
 
@@ -53,7 +54,8 @@ module _ (s : List ℕ) (table n : ℕ) where
   unfolding stringsArea
   strings-within p =
       cond-elim (Within s table) (leb (length s) (greatest s table n)) _ _ (λ _. none-within 5)
-      (λ _. text-within (least s table n) (greatest s table n) (least-low s table n) (greatest-high s table n) (omega (arith, least-low s table n 0 p, greatest-high s table n 0 p)))
+      (λ _. text-within (least s table n) (greatest s table n) (least-low s table n) (greatest-high s table n)
+      (omega (arith, least-low s table n 0 p, greatest-high s table n 0 p)))
 
   pub within : (lent : ℕ) → Within s table (mapOutcome s table n lent)
   unfolding mapOutcome

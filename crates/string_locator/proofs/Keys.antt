@@ -9,7 +9,8 @@ use mathlib.Core.Logic.{_⊎_, inl, inr, ⊎-elim}
 use mathlib.Core.List.{List, [], _∷_}
 use Rattle.dalvik.specs.Ids.{string-data-off}
 use Rattle.words.specs.Rising.{Rising}
-use Rattle.sort_keys.specs.Sorted.{sorted, count, once}
+use Rattle.sort_keys.specs.Sorted.{sorted}
+use Rattle.sort_keys.specs.Steps.{count, once}
 use Rattle.sort_keys.proofs.Counts.{same?, below?, once-same, once-other, count-append}
 use Rattle.sort_keys.proofs.Sorted.{sorted-same, sorted-rising}
 use Rattle.string_locator.specs.Map.{keyOf, keysOf, least, greatest}
@@ -69,7 +70,8 @@ module _ (s : List ℕ) (table : ℕ) where
   at-least-once : (n i : ℕ) → i < n → 1 ≤ count (keyOf s table i) (keysOf s table n)
   at-least-once zero i p = absurd (omega arith)
   at-least-once (suc n) i p =
-      ⊎-elim (λ e. omega (arith, count-more (keyOf s table i) n, ap (once (keyOf s table i)) (ap (keyOf s table) (sym e)), once-same (keyOf s table i)))
+      ⊎-elim
+      (λ e. omega (arith, count-more (keyOf s table i) n, ap (once (keyOf s table i)) (ap (keyOf s table) (sym e)), once-same (keyOf s table i)))
       (λ l. omega (arith, count-more (keyOf s table i) n, at-least-once n i l))
       (last? i n p)
 

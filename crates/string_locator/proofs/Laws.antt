@@ -54,7 +54,8 @@ module _ (s : List ℕ) (table : ℕ) where
   unfolding keysOf
   keys-none xs = refl
 
-  pub keys-more : (xs : List ℕ) (i v : ℕ) → i < length xs → v ≡ keyOf s table i → set (keysOf s table i ++ drop i xs) i v ≡ keysOf s table (i + 1) ++ drop (i + 1) xs
+  pub keys-more : (xs : List ℕ) (i v : ℕ) → i < length xs → v ≡ keyOf s table i
+      → set (keysOf s table i ++ drop i xs) i v ≡ keysOf s table (i + 1) ++ drop (i + 1) xs
   unfolding keysOf
   keys-more xs i v h e =
       rw (add-one i, drop-cons xs i 0 h, set-at (keysOf s table i) (getD xs i 0) (drop (suc i) xs) v i (length-keys i), e, append-assoc)
@@ -89,7 +90,7 @@ module _ (s : List ℕ) (lo hi n : ℕ) where
   unfolding textArea
   no-zero k e f = rw (← e, ← f)
 
-  pub area-found : (k m : ℕ) → l.Bytes k ≡ lengthBytes s hi → z.Behind m ≡ firstZero s (hi + k) → area lo (hi + k + m + 1) n ≡ textArea s lo hi n
+  pub area-found : (k m : ℕ) → l.Bytes k ≡ lengthBytes s hi → z.After m ≡ firstZero s (hi + k) → area lo (hi + k + m + 1) n ≡ textArea s lo hi n
   unfolding textArea
   area-found k m e f = rw (← e, ← f)
 
@@ -98,7 +99,8 @@ module _ (s : List ℕ) (table n : ℕ) where
   unfolding stringsArea
   offset-outside h = rw (le-leb _ _ h)
 
-  pub offsets-inside : (a : MapOutcome) (lo hi : ℕ) → lo ≡ least s table n → hi ≡ greatest s table n → hi < length s → a ≡ textArea s lo hi n → a ≡ stringsArea s table n
+  pub offsets-inside : (a : MapOutcome) (lo hi : ℕ) → lo ≡ least s table n → hi ≡ greatest s table n → hi < length s → a ≡ textArea s lo hi n
+      → a ≡ stringsArea s table n
   unfolding stringsArea
   offsets-inside a lo hi p q h e = e ∙ rw (← p, ← q, lt-leb _ _ h)
 
@@ -121,7 +123,8 @@ module _ (s : List ℕ) (table n lent : ℕ) where
     unfolding mapOutcome
     too-short some e h = rw (small, ne-eqb _ _ some, le-ltb _ _ e, lt-ltb _ _ h)
 
-    pub strings-found : (n ≡ 0 → ⊥) → item table stringIdSize n ≤ length s → n ≤ lent → (a : MapOutcome) → a ≡ stringsArea s table n → a ≡ mapOutcome s table n lent
+    pub strings-found : (n ≡ 0 → ⊥) → item table stringIdSize n ≤ length s → n ≤ lent → (a : MapOutcome) → a ≡ stringsArea s table n
+        → a ≡ mapOutcome s table n lent
     unfolding mapOutcome
     strings-found some e h a p = p ∙ rw (small, ne-eqb _ _ some, le-ltb _ _ e, le-ltb _ _ h)
 
@@ -136,7 +139,7 @@ module _ (s : List ℕ) (table n lent : ℕ) where
   none-room a e r = record { lent-enough = omega arith; few = omega arith; ids = λ p. absurd (omega arith) }
 
   zero-room : (r : Zero) (g : ℕ → MapOutcome) → ((k : ℕ) → Room s table n lent (g k)) → Room s table n lent (onZero r (none 5) g)
-  zero-room (z.Behind k) g h = h k
+  zero-room (z.After k) g h = h k
   zero-room z.Nothing g h = none-room 0 0 5
 
   len-room : (r : Length) (g : ℕ → MapOutcome) → ((k : ℕ) → Room s table n lent (g k)) → Room s table n lent (onLength r (none 5) g)
@@ -147,12 +150,14 @@ module _ (s : List ℕ) (table n lent : ℕ) where
   unfolding textArea
   text-room lo hi p q =
       len-room (lengthBytes s hi) (λ (k : ℕ). onZero (firstZero s (hi + k)) (none 5) (λ (z : ℕ). area lo (hi + k + z + 1) n))
-      (λ k. zero-room (firstZero s (hi + k)) (λ (z : ℕ). area lo (hi + k + z + 1) n) (λ m. record { lent-enough = p; few = omega arith; ids = λ _. q }))
+      (λ k. zero-room (firstZero s (hi + k)) (λ (z : ℕ). area lo (hi + k + z + 1) n)
+      (λ m. record { lent-enough = p; few = omega arith; ids = λ _. q }))
 
   strings-room : n ≤ lent → item table stringIdSize n ≤ length s → Room s table n lent (stringsArea s table n)
   unfolding stringsArea
   strings-room p q =
-      cond-elim (Room s table n lent) (leb (length s) (greatest s table n)) _ _ (λ _. none-room 0 0 5) (λ _. text-room (least s table n) (greatest s table n) p q)
+      cond-elim (Room s table n lent) (leb (length s) (greatest s table n)) _ _ (λ _. none-room 0 0 5)
+      (λ _. text-room (least s table n) (greatest s table n) p q)
 
   pub answer-room : Room s table n lent (mapOutcome s table n lent)
   unfolding mapOutcome
@@ -174,17 +179,22 @@ module _ (s : List ℕ) (table n : ℕ) (before mid : List ℕ) (cleared : mid �
   pub same-answer : (a : MapOutcome) → a ≡ mapOutcome s table n (length mid) → a ≡ mapOutcome s table n (length before)
   same-answer a e = e ∙ ap (mapOutcome s table n) length-mid
 
-  pub no-keys : (r : ℕ) → none r ≡ mapOutcome s table n (length mid) → mid ≡ padded (length before) (sorted (keysOf s table (mapOutcome s table n (length before) .count)))
+  pub no-keys : (r : ℕ) → none r ≡ mapOutcome s table n (length mid)
+      → mid ≡ padded (length before) (sorted (keysOf s table (mapOutcome s table n (length before) .count)))
   unfolding sorted keysOf
-  no-keys r e = cleared ∙ (sym (padded-none (length before)) ∙ ap (λ (c : ℕ). padded (length before) (sorted (keysOf s table c))) (ap (λ (x : MapOutcome). x .count) (same-answer (none r) e)))
+  no-keys r e =
+      cleared ∙ (sym (padded-none (length before)) ∙ ap (λ (c : ℕ). padded (length before) (sorted (keysOf s table c)))
+      (ap (λ (x : MapOutcome). x .count) (same-answer (none r) e)))
 
   module _ (a e c : ℕ) (found : area a e c ≡ mapOutcome s table n (length mid)) where
     pub room : Room s table n (length mid) (area a e c)
     room = subst (Room s table n (length mid)) (sym found) (answer-room s table n (length mid))
 
-    pub keys-written : (ys : List ℕ) → ys ≡ sorted (keysOf s table (length (take c mid))) → ys ++ drop c mid ≡ padded (length before) (sorted (keysOf s table (mapOutcome s table n (length before) .count)))
+    pub keys-written : (ys : List ℕ) → ys ≡ sorted (keysOf s table (length (take c mid)))
+        → ys ++ drop c mid ≡ padded (length before) (sorted (keysOf s table (mapOutcome s table n (length before) .count)))
     keys-written ys w =
         let long : length ys ≡ c = ap length w ∙ (length-sorted _ ∙ (length-keys s table _ ∙ length-part mid room)) in
         ap (λ (l : List ℕ). ys ++ drop c l) cleared
         ∙ (padded-front (length before) c ys long
-        ∙ (ap (padded (length before)) (w ∙ ap (λ (k : ℕ). sorted (keysOf s table k)) (length-part mid room ∙ ap (λ (x : MapOutcome). x .count) (same-answer (area a e c) found)))))
+        ∙ (ap (padded (length before))
+        (w ∙ ap (λ (k : ℕ). sorted (keysOf s table k)) (length-part mid room ∙ ap (λ (x : MapOutcome). x .count) (same-answer (area a e c) found)))))

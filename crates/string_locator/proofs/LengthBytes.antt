@@ -1,7 +1,7 @@
 -- Laws of the length bytes: a byte below 128 ends them, any other goes on with the next. The loop's invariant is that the bytes passed and
 -- those from here make all.
 -- Assumes nothing.
-use Prim.Native.Nat.{ℕ, zero, suc, _+_, _-_, _<_, _≤_}
+use Prim.Native.Nat.{ℕ, suc, _+_, _-_, _<_, _≤_}
 use native.Mathlib.Omega.{arith}
 use native.Mathlib.Numerals.{add-one}
 use native.Mathlib.Nat.{sub-self, zero-add}
@@ -58,7 +58,8 @@ module _ (s : List ℕ) (p i : ℕ) where
     length-stop t = ap l.Bytes (omega arith) ∙ ap (passed (i - p)) (sym (ends-here t)) ∙ e
 
 -- what holds of both ways on holds
-pub length-any : {A : Type 0} (P : A → Type 0) (s : List ℕ) (i : ℕ) (a : A) (g : ℕ → A) → P a → ((k : ℕ) → P (g k)) → P (onLength (lengthBytes s i) a g)
+pub length-any : {A : Type 0} (P : A → Type 0) (s : List ℕ) (i : ℕ) (a : A) (g : ℕ → A) → P a → ((k : ℕ) → P (g k))
+    → P (onLength (lengthBytes s i) a g)
 length-any P s i a g x f = by-length (lengthBytes s i)
   where
     by-length : (r : Length) → P (onLength r a g)

@@ -1,2 +1,3 @@
 pub mod Map
 pub mod LengthBytes
+pub mod Steps

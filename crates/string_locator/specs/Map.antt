@@ -1,7 +1,7 @@
 -- The string map (SPEC, String map; `_build_map` of string_locator.rs): a key for each string, sorted, and
 -- the text area. Faults in order: 1; no string succeeds; 3; 4; 5.
 -- Assumes nothing.
-use Prim.Native.Nat.{ℕ, zero, suc, _+_, _*_, _^_, _<_, _≤_, min, max}
+use Prim.Native.Nat.{ℕ, zero, suc, _+_, _*_, _^_, min, max}
 use mathlib.Core.Path.{_≡_}
 use mathlib.Core.List.{List, [], _∷_, _++_}
 use mathlib.Core.Bool.{cond}
@@ -72,9 +72,3 @@ mapOutcome s table n lent =
 pub record Built (s : List ℕ) (table n : ℕ) (r : StringMap) (before after : List ℕ) : Type 0 where
   pub answer : says r ≡ mapOutcome s table n (length before)
   pub keys : after ≡ padded (length before) (sorted (keysOf s table (mapOutcome s table n (length before) .count)))
-
--- ---- what the inner steps are asked
--- the ids of n strings are inside the file
-pub record Inside (s : List ℕ) (table n : ℕ) : Type 0 where
-  pub ids : 0 < n → item table stringIdSize n ≤ length s
-  pub few : n < 2 ^ 32

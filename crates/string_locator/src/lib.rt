@@ -11,7 +11,8 @@ ghost use lib.ListN.{length};
 ghost use Rattle.dalvik.specs.Ids.{string-data-off};
 ghost use Rattle.sort_keys.specs.Sorted.{sorted};
 ghost use Rattle.string_locator.specs.LengthBytes.{lengthBytes};
-ghost use Rattle.string_locator.specs.Map.{keysOf, least, greatest, says, textArea, stringsArea, mapOutcome, Built, Inside};
+ghost use Rattle.string_locator.specs.Map.{keysOf, least, greatest, says, textArea, stringsArea, mapOutcome, Built};
+ghost use Rattle.string_locator.specs.Steps.{Inside};
 
 // The text area and how many keys there are, or why there is no map.
 pub enum StringMap {
@@ -90,7 +91,7 @@ fn text_area(file: &[u8], lo: usize, hi: usize, count: usize) -> StringMap
         return StringMap::Refused(Refusal::StringOutside);
     };
     let text = hi + len;
-    let Zero::Behind(before) = string_data::first_zero(file, text) else {
+    let Zero::After(before) = string_data::first_zero(file, text) else {
         return StringMap::Refused(Refusal::StringOutside);
     };
     StringMap::Map {
@@ -137,6 +138,9 @@ fn answer(file: &[u8], strings: Table, lent: usize) -> StringMap
     strings_area(file, strings.off as usize, n)
 }
 
+// A key is the data offset times this, 2^32, plus the index.
+const INDEX_SPAN: u64 = 4294967296;
+
 // The keys of as many strings as there are words, sorted.
 fn put_keys(file: &[u8], table: usize, keys: &mut [u64])
     requires { ⌜ Inside (now file) table (length (now keys)) ⌝ }
@@ -145,7 +149,7 @@ fn put_keys(file: &[u8], table: usize, keys: &mut [u64])
     let mut i = 0;
     while i < keys.len() {
         let offset = data_offset(file, table, i);
-        keys[i] = (offset as u64) * 4294967296 + (i as u64);
+        keys[i] = (offset as u64) * INDEX_SPAN + (i as u64);
         i += 1;
     }
     sort_keys::sort(keys);

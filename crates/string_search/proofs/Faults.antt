@@ -46,10 +46,12 @@ pub record Sound (len shortest n : ℕ) (ks : List ℕ) : Type 0 where
 pub no-fault : (len shortest n : ℕ) (ks : List ℕ) → 0 ≡ searchFault len shortest n ks → Sound len shortest n ks
 no-fault len shortest n ks e =
     ⊎-elim (λ (l : tooLarge len ≡ true). absurd (let f = fault-large len shortest n ks l in let z : _≡_ {A = ℕ} 0 1 = cc in omega arith))
-    (λ (l : tooLarge len ≡ false). ⊎-elim (λ (h : n < shortest). absurd (let f = fault-short len shortest n ks l h in let z : _≡_ {A = ℕ} 0 9 = cc in omega arith))
+    (λ (l : tooLarge len ≡ false). ⊎-elim
+    (λ (h : n < shortest). absurd (let f = fault-short len shortest n ks l h in let z : _≡_ {A = ℕ} 0 9 = cc in omega arith))
     (λ (h : shortest ≤ n). ⊎-elim (λ (k : 255 < n). absurd (let f = fault-long len shortest n ks l k in let z : _≡_ {A = ℕ} 0 9 = cc in omega arith))
     (λ (k : n ≤ 255). ⊎-elim (λ (g : goodKeys ks ≡ true). record { small = ltb-false largestFile len l; least = h; short = k; good = g })
-    (λ (g : goodKeys ks ≡ false). absurd (let f = fault-keys len shortest n ks l h k g in let z : _≡_ {A = ℕ} 0 15 = cc in omega arith)) (case (goodKeys ks)))
+    (λ (g : goodKeys ks ≡ false). absurd (let f = fault-keys len shortest n ks l h k g in let z : _≡_ {A = ℕ} 0 15 = cc in omega arith))
+    (case (goodKeys ks)))
     (below-or-not 255 n))
     (below-or-not n shortest))
     (case (tooLarge len))

@@ -5,22 +5,19 @@
 -- Assumes nothing.
 use Prim.Native.Nat.{ℕ, _+_, _-_, _≤_, _<_, min}
 use mathlib.Core.Path.{_≡_, ap, sym, subst, _∙_}
-use mathlib.Core.Bool.{true, false}
 use mathlib.Core.Logic.{_⊎_, inl, inr, ⊎-elim}
 use mathlib.Core.List.{List}
-use lib.ListN.{length, getD, take, drop, length-take, length-drop}
-use lib.Seq.{ext-getD, getD-take, getD-drop}
+use lib.ListN.{length, getD}
 use native.Mathlib.Omega.{arith}
 use Rattle.memchr.specs.First as Jump
 use Rattle.memchr.specs.First.{Both}
 use Rattle.memchr.proofs.Firsts.{onward}
 use Rattle.word_set.proofs.Sets.{below-or-not}
-use Rattle.string_search.specs.declared.Owner.the-variants.{Entry, Absent}
+use Rattle.string_search.specs.declared.Owner.the-variants.{Entry}
 use Rattle.memchr.specs.Occurs.{Stands, Occurs}
 use Rattle.string_search.specs.Finds.{First, Find, leftmost, further}
 use Rattle.memchr.proofs.Occurs.{byte-stands}
 use Rattle.string_search.specs.Owner.{owner}
-use Rattle.word_set.specs.Decides.{Decides}
 use Rattle.string_search.specs.Search.{OwnsFrom}
 
 -- ---- from one place of the query's first and last byte to the next
@@ -36,7 +33,7 @@ occurs-ends {s} {q} {e} {p} h o =
 -- no occurrence stands from `from` up to p, which is before `from` only where no place is left
 pub record Ahead (s q : List ℕ) (e from p : ℕ) : Type 0 where
   pub inside : p ≤ e - (length q - 1)
-  pub behind : p < e - (length q - 1) → from ≤ p
+  pub after : p < e - (length q - 1) → from ≤ p
   pub none-before : (k : ℕ) → from ≤ k → k < p → Occurs s q e k → ⊥
 
 -- the next such place is nearer the end e
@@ -47,22 +44,24 @@ module _ {s q : List ℕ} {e from : ℕ} (h : 0 < length q) (l : e ≤ length s)
   pub ahead-start : {p : ℕ} → Jump.First (Ends s q) from (min e (length s) - (length q - 1)) p → Ahead s q e from p
   ahead-start f = record {
     inside = omega (arith, f .inside);
-    behind = λ m. f .behind (omega arith);
+    after = λ m. f .after (omega arith);
     none-before = λ k a b o. f .none-before k a b (occurs-ends h o);
   }
 
-  pub ahead-next : {p r : ℕ} → Ahead s q e from p → p + (length q - 1) < e → (Stands s q p → ⊥) → Jump.First (Ends s q) (p + 1) (min e (length s) - (length q - 1)) r → Ahead s q e from r
+  pub ahead-next : {p r : ℕ} → Ahead s q e from p → p + (length q - 1) < e → (Stands s q p → ⊥)
+      → Jump.First (Ends s q) (p + 1) (min e (length s) - (length q - 1)) r → Ahead s q e from r
   ahead-next {p} {r} c m n f = record {
     inside = omega (arith, f .inside);
-    behind = λ d. omega (arith, c .behind (omega arith), f .behind (omega arith));
+    after = λ d. omega (arith, c .after (omega arith), f .after (omega arith));
     none-before = λ k a b o.
         ⊎-elim (λ (i : k < p). c .none-before k a i o)
         (λ (i : p ≤ k).
-        ⊎-elim (λ (j : p < k). f .none-before k (omega arith) b (occurs-ends h o)) (λ (j : k ≤ p). n (let z : k ≡ p = omega arith in subst (Stands s q) z (o .bytes))) (below-or-not p k)) (below-or-not k p);
+        ⊎-elim (λ (j : p < k). f .none-before k (omega arith) b (occurs-ends h o))
+        (λ (j : k ≤ p). n (let z : k ≡ p = omega arith in subst (Stands s q) z (o .bytes))) (below-or-not p k)) (below-or-not k p);
   }
 
   pub ahead-found : {p : ℕ} → Ahead s q e from p → p + (length q - 1) < e → Stands s q p → First s q e from p
-  ahead-found c m b = record { behind = c .behind (omega arith); occurs = record { inside = omega arith; bytes = b }; none-before = c .none-before }
+  ahead-found c m b = record { after = c .after (omega arith); occurs = record { inside = omega arith; bytes = b }; none-before = c .none-before }
 
   pub ahead-none : {p : ℕ} → Ahead s q e from p → e ≤ p + (length q - 1) → (k : ℕ) → from ≤ k → Occurs s q e k → ⊥
   ahead-none c m k a o = c .none-before k a (omega (arith, o .inside)) o
@@ -70,8 +69,8 @@ module _ {s q : List ℕ} {e from : ℕ} (h : 0 < length q) (l : e ≤ length s)
 module _ {s q : List ℕ} {e : ℕ} where
   first-unique : {from p r : ℕ} → First s q e from p → First s q e from r → p ≡ r
   first-unique {from} {p} {r} a b =
-      ⊎-elim (λ (l : p < r). absurd (b .none-before p (a .behind) l (a .occurs)))
-      (λ (l : r ≤ p). ⊎-elim (λ (m : r < p). absurd (a .none-before r (b .behind) m (b .occurs))) (λ (m : p ≤ r). omega arith) (below-or-not r p))
+      ⊎-elim (λ (l : p < r). absurd (b .none-before p (a .after) l (a .occurs)))
+      (λ (l : r ≤ p). ⊎-elim (λ (m : r < p). absurd (a .none-before r (b .after) m (b .occurs))) (λ (m : p ≤ r). omega arith) (below-or-not r p))
       (below-or-not p r)
 
   -- a find is the first occurrence, or a find from its end on
@@ -83,22 +82,24 @@ module _ {s q : List ℕ} {e : ℕ} where
   find-occurs (leftmost f) = f .occurs
   find-occurs (further f rest) = find-occurs rest
 
-  pub find-behind : {from r : ℕ} → Find s q e from r → from ≤ r
-  find-behind (leftmost f) = f .behind
-  find-behind {from} {r} (further f rest) = omega (arith, f .behind, find-behind rest)
+  pub find-after : {from r : ℕ} → Find s q e from r → from ≤ r
+  find-after (leftmost f) = f .after
+  find-after {from} {r} (further f rest) = omega (arith, f .after, find-after rest)
 
   -- two finds share no byte
   pub finds-apart : {from p r : ℕ} → Find s q e from p → Find s q e from r → (p ≡ r) ⊎ ((p + length q ≤ r) ⊎ (r + length q ≤ p))
   finds-apart {from} {p} {r} (leftmost f) y =
-      ⊎-elim (λ (d : r ≡ p). inl (sym d)) (λ (d : Find s q e (p + length q) r). inr (inl (find-behind d))) (find-cases f y)
+      ⊎-elim (λ (d : r ≡ p). inl (sym d)) (λ (d : Find s q e (p + length q) r). inr (inl (find-after d))) (find-cases f y)
   finds-apart {from} {p} {r} (further {p = p′} f x) y =
-      ⊎-elim (λ (d : r ≡ p′). inr (inr (subst (λ (i : ℕ). i + length q ≤ p) (sym d) (find-behind x)))) (λ (d : Find s q e (p′ + length q) r). finds-apart x d) (find-cases f y)
+      ⊎-elim (λ (d : r ≡ p′). inr (inr (subst (λ (i : ℕ). i + length q ≤ p) (sym d) (find-after x))))
+      (λ (d : Find s q e (p′ + length q) r). finds-apart x d) (find-cases f y)
 
   -- the owners from a place on are the first find's, if it has one, and those from its end on
   module _ {ks : List ℕ} {from p : ℕ} (f : First s q e from p) where
     pub owned-first : (x : ℕ) → OwnsFrom s ks q e from x → (owner ks p ≡ Entry x) ⊎ OwnsFrom s ks q e (p + length q) x
     owned-first x o =
-        ⊎-elim (λ (d : o .at ≡ p). inl (ap (owner ks) (sym d) ∙ o .owns)) (λ (d : Find s q e (p + length q) (o .at)). inr record { at = o .at; find = d; owns = o .owns }) (find-cases f (o .find))
+        ⊎-elim (λ (d : o .at ≡ p). inl (ap (owner ks) (sym d) ∙ o .owns))
+        (λ (d : Find s q e (p + length q) (o .at)). inr record { at = o .at; find = d; owns = o .owns }) (find-cases f (o .find))
 
     pub first-owned : (x : ℕ) → owner ks p ≡ Entry x → OwnsFrom s ks q e from x
     first-owned x h = record { at = p; find = leftmost f; owns = h }
@@ -107,4 +108,4 @@ module _ {s q : List ℕ} {e : ℕ} where
     later-owned x o = record { at = o .at; find = further f (o .find); owns = o .owns }
 
   pub none-owned : {ks : List ℕ} {from : ℕ} → ((k : ℕ) → from ≤ k → Occurs s q e k → ⊥) → (x : ℕ) → OwnsFrom s ks q e from x → ⊥
-  none-owned n x o = n (o .at) (find-behind (o .find)) (find-occurs (o .find))
+  none-owned n x o = n (o .at) (find-after (o .find)) (find-occurs (o .find))

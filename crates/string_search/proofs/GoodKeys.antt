@@ -33,7 +33,8 @@ module _ (ks : List ℕ) (b i : ℕ) where
         let q : ltb (keyIndex (getD ks i 0)) 4294967295 ≡ false = le-ltb (keyIndex (getD ks i 0)) 4294967295 (omega arith) in
         rw (drop-cons ks i 0 h, le-leb _ _ l, q)
 
-    pub good-next : b ≤ getD ks i 0 → (keyIndex (getD ks i 0) ≡ 4294967295 → ⊥) → goodFrom b (drop i ks) ≡ goodFrom (getD ks i 0 + 1) (drop (i + 1) ks)
+    pub good-next : b ≤ getD ks i 0 → (keyIndex (getD ks i 0) ≡ 4294967295 → ⊥)
+        → goodFrom b (drop i ks) ≡ goodFrom (getD ks i 0 + 1) (drop (i + 1) ks)
     unfolding goodFrom
     good-next l n =
         let q : ltb (keyIndex (getD ks i 0)) 4294967295 ≡ true = lt-ltb (keyIndex (getD ks i 0)) 4294967295 (omega arith) in
@@ -46,11 +47,14 @@ good-head b k ks e = leb-true b k (and-left (leb b k) (ltb (keyIndex k) 42949672
 
 good-mark : (b k : ℕ) (ks : List ℕ) → goodFrom b (k ∷ ks) ≡ true → keyIndex k < 4294967295
 unfolding goodFrom
-good-mark b k ks e = ltb-true (keyIndex k) 4294967295 (and-left (ltb (keyIndex k) 4294967295) (goodFrom (k + 1) ks) (and-right (leb b k) (ltb (keyIndex k) 4294967295 && goodFrom (k + 1) ks) e))
+good-mark b k ks e =
+    ltb-true (keyIndex k) 4294967295
+    (and-left (ltb (keyIndex k) 4294967295) (goodFrom (k + 1) ks) (and-right (leb b k) (ltb (keyIndex k) 4294967295 && goodFrom (k + 1) ks) e))
 
 good-tail : (b k : ℕ) (ks : List ℕ) → goodFrom b (k ∷ ks) ≡ true → goodFrom (k + 1) ks ≡ true
 unfolding goodFrom
-good-tail b k ks e = and-right (ltb (keyIndex k) 4294967295) (goodFrom (k + 1) ks) (and-right (leb b k) (ltb (keyIndex k) 4294967295 && goodFrom (k + 1) ks) e)
+good-tail b k ks e =
+    and-right (ltb (keyIndex k) 4294967295) (goodFrom (k + 1) ks) (and-right (leb b k) (ltb (keyIndex k) 4294967295 && goodFrom (k + 1) ks) e)
 
 good-above : (b : ℕ) (ks : List ℕ) → goodFrom b ks ≡ true → (i : ℕ) → i < length ks → b ≤ getD ks i 0
 good-above b [] e i h = absurd (omega arith)
@@ -70,9 +74,12 @@ good-index b (k ∷ ks) e zero h = good-mark b k ks e
 good-index b (k ∷ ks) e (suc i) h = good-index (k + 1) ks (good-tail b k ks e) i (omega arith)
 
 -- .. and all such lists pass it
-pub good-keys : (b : ℕ) (ks : List ℕ) → (0 < length ks → b ≤ getD ks 0 0) → Rising ks → ((i : ℕ) → i < length ks → keyIndex (getD ks i 0) < 4294967295) → goodFrom b ks ≡ true
+pub good-keys : (b : ℕ) (ks : List ℕ) → (0 < length ks → b ≤ getD ks 0 0) → Rising ks
+    → ((i : ℕ) → i < length ks → keyIndex (getD ks i 0) < 4294967295) → goodFrom b ks ≡ true
 unfolding goodFrom
 good-keys b [] f r m = refl
 good-keys b (k ∷ ks) f r m =
-    let rest : goodFrom (k + 1) ks ≡ true = good-keys (k + 1) ks (λ h. omega (arith, r 0 1 (omega arith) (omega arith))) (λ i j l h. r (suc i) (suc j) (omega arith) (omega arith)) (λ i h. m (suc i) (omega arith)) in
+    let rest : goodFrom (k + 1) ks ≡ true =
+    good-keys (k + 1) ks (λ h. omega (arith, r 0 1 (omega arith) (omega arith))) (λ i j l h. r (suc i) (suc j) (omega arith) (omega arith))
+    (λ i h. m (suc i) (omega arith)) in
     rw (le-leb b k (f (omega arith)), lt-ltb (keyIndex k) 4294967295 (m 0 (omega arith)), rest)

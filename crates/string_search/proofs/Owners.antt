@@ -25,6 +25,10 @@ none-reaches (k ∷ ks) p f =
     let e : owner ks p ≡ Absent = none-reaches ks p (λ i h. f (suc i) (omega arith)) in
     rw (e, lt-leb (keyOffset k) p (f 0 (omega arith)))
 
+-- a later key's answer is the answer
+goes-before : (later other : Owner) (x : ℕ) → later ≡ Entry x → orElse later other ≡ Entry x
+goes-before later other x e = rw e refl
+
 last-reaches : (ks : List ℕ) (p m : ℕ) → m < length ks → keyOffset (getD ks m 0) ≤ p → ((i : ℕ) → m < i → i < length ks → p < keyOffset (getD ks i 0))
     → owner ks p ≡ Entry (keyIndex (getD ks m 0))
 unfolding owner
@@ -33,8 +37,7 @@ last-reaches (k ∷ ks) p zero h l f =
     let e : owner ks p ≡ Absent = none-reaches ks p (λ i z. f (suc i) (omega arith) (omega arith)) in
     rw (e, le-leb (keyOffset k) p l)
 last-reaches (k ∷ ks) p (suc m) h l f =
-    let e : owner ks p ≡ Entry (keyIndex (getD ks m 0)) = last-reaches ks p m (omega arith) l (λ i a z. f (suc i) (omega arith) (omega arith)) in
-    rw e
+    goes-before (owner ks p) (reaches k p) _ (last-reaches ks p m (omega arith) l (λ i a z. f (suc i) (omega arith) (omega arith)))
 
 module _ (ks : List ℕ) (p n : ℕ) (r : Rising ks) (b : Place ks ((p + 1) * 4294967296) n) where
   past : (i : ℕ) → n ≤ i → i < length ks → p < keyOffset (getD ks i 0)
@@ -63,5 +66,6 @@ unfolding owner
 owner-in [] p x e = absurd (let z : _≡_ {A = ℕ} 0 1 = cc in omega arith)
 owner-in (k ∷ ks) p x e =
     ⊎-elim (λ (f : owner ks p ≡ Entry x). in-cons (keyIndex k) (owner-in ks p x f))
-    (λ (f : reaches k p ≡ Entry x). subst (λ (y : ℕ). In y (map keyIndex (k ∷ ks))) (sym (reaches-is k p x f)) (in-here (keyIndex k) (map keyIndex ks)))
+    (λ (f : reaches k p ≡ Entry x). subst (λ (y : ℕ). In y (map keyIndex (k ∷ ks))) (sym (reaches-is k p x f))
+    (in-here (keyIndex k) (map keyIndex ks)))
     (either-is (owner ks p) (reaches k p) x e)

@@ -10,7 +10,7 @@ use Rattle.memchr.specs.Occurs.{Occurs}
 
 -- p is the first occurrence at or after `from`
 pub record First (s q : List ℕ) (e from p : ℕ) : Type 0 where
-  pub behind : from ≤ p
+  pub after : from ≤ p
   pub occurs : Occurs s q e p
   pub none-before : (k : ℕ) → from ≤ k → k < p → Occurs s q e k → ⊥
 

@@ -9,7 +9,7 @@ use Rattle.words.specs.Rising.{Rising}
 use Rattle.refusal.specs.Refusals.{largestFile}
 use Rattle.word_set.specs.declared.Insertion.{Insertion}
 use Rattle.word_set.specs.declared.Insertion.the-variants.{Held}
-use Rattle.index_set.specs.Marked.{Added}
+use Rattle.index_set.specs.Marked.{SetWords, Added}
 use Rattle.memchr.specs.Occurs.{Occurs}
 use Rattle.string_search.specs.declared.Next.{Next}
 use Rattle.string_search.specs.declared.Next.the-variants.{At, Nothing}
@@ -30,9 +30,9 @@ pub record Ready (s ks q : List ℕ) (e from : ℕ) (out : List ℕ) : Type 0 wh
   pub clear : out ≡ zeros (length out)
 
 -- one find: an owner joins the set
-pub data Stepped (o : Owner) (n : ℕ) (marks marks′ before after : List ℕ) (r : Insertion) : Type 0 where
-  joined : (i : ℕ) → o ≡ Entry i → Added i n marks marks′ before after r → Stepped o n marks marks′ before after r
-  passed : o ≡ Absent → marks′ ≡ marks → after ≡ before → r ≡ Held n → Stepped o n marks marks′ before after r
+pub data Stepped (o : Owner) (n : ℕ) (before after : SetWords) (r : Insertion) : Type 0 where
+  joined : (i : ℕ) → o ≡ Entry i → Added i n before after r → Stepped o n before after r
+  passed : o ≡ Absent → after ≡ before → r ≡ Held n → Stepped o n before after r
 
 -- what looking for the next find answers
 pub data NextFind (s q : List ℕ) (e from : ℕ) (r : Next) : Type 0 where

@@ -2,6 +2,12 @@
 ghost use mathlib.Core.Path.{_≡_};
 ghost use Rattle.string_search.specs.Keys.{goodKeys};
 
+// A key is the data offset times this, 2^32, plus the index.
+pub(crate) const INDEX_SPAN: u64 = 4294967296;
+
+// The greatest index, which no string has.
+const NO_INDEX: u64 = 4294967295;
+
 // Whether the keys rise strictly and none has the index 2^32 - 1.
 pub(crate) fn keys_good(keys: &[u64]) -> bool
     ensures { λ r. ⌜ r ≡ goodKeys (now (keys .entry)) ⌝ }
@@ -13,7 +19,7 @@ pub(crate) fn keys_good(keys: &[u64]) -> bool
         if k < least {
             return false;
         }
-        if k % 4294967296 == 4294967295 {
+        if k % INDEX_SPAN == NO_INDEX {
             return false;
         }
         least = k + 1;

@@ -9,17 +9,15 @@ use word_set::Insertion;
 ghost use mathlib.Core.Path.{_≡_};
 ghost use Prim.Native.Nat.{_+_, _≤_, _<_};
 ghost use lib.ListN.{length};
-ghost use Rattle.words.specs.Padded.{zeros};
 ghost use Rattle.words.specs.Rising.{Rising};
-ghost use Rattle.word_set.specs.Found.{Found, Matched};
-ghost use Rattle.index_set.specs.Marked.{Blank};
+ghost use Rattle.word_set.specs.Found.{Found, faultNumber};
+ghost use Rattle.word_set.specs.Steps.{Decides, Matched};
+ghost use Rattle.index_set.specs.Marked.{setWords};
+ghost use Rattle.index_set.specs.Steps.{Blank};
 ghost use Rattle.memchr.specs.Occurs.{Stands};
-ghost use Rattle.string_search.specs.Steps.{NextFind};
-ghost use Rattle.string_search.specs.Owner.{owner};
-ghost use Rattle.word_set.specs.Decides.{Decides};
-ghost use Rattle.word_set.specs.Found.{faultNumber};
-ghost use Rattle.string_search.specs.Steps.{Ready, Searched, Stepped};
 ghost use Rattle.string_search.specs.Search.{OwnsFrom, area, Owns, searchFault};
+ghost use Rattle.string_search.specs.Owner.{owner};
+ghost use Rattle.string_search.specs.Steps.{Searched, NextFind, Stepped, Ready};
 
 // The string in which a find begins: the entry of a key, by its index, or none.
 pub enum Owner {
@@ -71,17 +69,20 @@ fn owner_of(keys: &[u64], at: usize) -> Owner
     requires { ⌜ Rising (now keys) × (at < 16777217) ⌝ }
     ensures { λ r. ⌜ r ≡ owner (now (keys .entry)) at ⌝ }
 {
-    let n = word_set::place_wide(keys, (at as u64 + 1) * 4294967296);
+    let n = word_set::place_wide(keys, (at as u64 + 1) * keys::INDEX_SPAN);
     if n == 0 {
         return Owner::Absent;
     }
-    Owner::Entry((keys[n - 1] % 4294967296) as u32)
+    Owner::Entry((keys[n - 1] % keys::INDEX_SPAN) as u32)
 }
 
 // One find: the matcher goes on only with an entry, whose index joins the set.
 fn match_step(keys: &[u64], at: usize, marks: &mut [u64], out: &mut [u32], n: usize) -> Insertion
     requires { ⌜ Rising (now keys) × (at < 16777217) ⌝ }
-    ensures { λ r. ⌜ Stepped (owner (now (keys .entry)) at) n (now (marks .entry)) (now (marks .exit)) (now (out .entry)) (now (out .exit)) r ⌝ }
+    ensures { λ r.
+        let before = setWords (now (marks .entry)) (now (out .entry)) in
+        let after = setWords (now (marks .exit)) (now (out .exit)) in
+        ⌜ Stepped (owner (now (keys .entry)) at) n before after r ⌝ }
 {
     let Owner::Entry(index) = owner_of(keys, at) else {
         return Insertion::Held(n);
@@ -100,7 +101,9 @@ fn match_marked(
     out: &mut [u32],
 ) -> Insertion
     requires { ⌜ Ready (now file) (now keys) (now query) end start (now out) × Blank (now marks) ⌝ }
-    ensures { λ r. ⌜ Matched (OwnsFrom (now (file .entry)) (now (keys .entry)) (now (query .entry)) end start) (now (out .entry)) (now (out .exit)) r ⌝ }
+    ensures { λ r.
+        let owns = OwnsFrom (now (file .entry)) (now (keys .entry)) (now (query .entry)) end start in
+        ⌜ Matched owns (now (out .entry)) (now (out .exit)) r ⌝ }
 {
     let mut from = start;
     let mut n = 0;
@@ -116,7 +119,10 @@ fn match_marked(
     }
 }
 
-// With marks for the indices of 32,768 strings.
+// How many strings 512 words of marks have a bit for.
+const FEW: usize = 32768;
+
+// With marks for the indices of few strings.
 fn match_few(
     file: &[u8],
     keys: &[u64],
@@ -126,7 +132,9 @@ fn match_few(
     out: &mut [u32],
 ) -> Insertion
     requires { ⌜ Ready (now file) (now keys) (now query) end start (now out) ⌝ }
-    ensures { λ r. ⌜ Matched (OwnsFrom (now (file .entry)) (now (keys .entry)) (now (query .entry)) end start) (now (out .entry)) (now (out .exit)) r ⌝ }
+    ensures { λ r.
+        let owns = OwnsFrom (now (file .entry)) (now (keys .entry)) (now (query .entry)) end start in
+        ⌜ Matched owns (now (out .entry)) (now (out .exit)) r ⌝ }
 {
     let mut marks = [0u64; 512];
     match_marked(file, keys, start, end, query, &mut marks, out)
@@ -142,7 +150,9 @@ fn match_many(
     out: &mut [u32],
 ) -> Insertion
     requires { ⌜ Ready (now file) (now keys) (now query) end start (now out) ⌝ }
-    ensures { λ r. ⌜ Matched (OwnsFrom (now (file .entry)) (now (keys .entry)) (now (query .entry)) end start) (now (out .entry)) (now (out .exit)) r ⌝ }
+    ensures { λ r.
+        let owns = OwnsFrom (now (file .entry)) (now (keys .entry)) (now (query .entry)) end start in
+        ⌜ Matched owns (now (out .entry)) (now (out .exit)) r ⌝ }
 {
     let mut marks = [0u64; 65536];
     match_marked(file, keys, start, end, query, &mut marks, out)
@@ -158,9 +168,11 @@ fn match_string_offset(
     out: &mut [u32],
 ) -> Insertion
     requires { ⌜ Ready (now file) (now keys) (now query) end start (now out) ⌝ }
-    ensures { λ r. ⌜ Matched (OwnsFrom (now (file .entry)) (now (keys .entry)) (now (query .entry)) end start) (now (out .entry)) (now (out .exit)) r ⌝ }
+    ensures { λ r.
+        let owns = OwnsFrom (now (file .entry)) (now (keys .entry)) (now (query .entry)) end start in
+        ⌜ Matched owns (now (out .entry)) (now (out .exit)) r ⌝ }
 {
-    if keys.len() <= 32768 {
+    if keys.len() <= FEW {
         return match_few(file, keys, start, end, query, out);
     }
     match_many(file, keys, start, end, query, out)

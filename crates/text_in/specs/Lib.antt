@@ -1,3 +1,4 @@
+-- In the order in which a reader needs them.
 pub mod Numbers
 pub mod Words
 pub mod Steps

@@ -1,10 +1,9 @@
 -- Decimal numbers in a text: one digit or more, leading zeros allowed, at most 2^32 - 1.
 -- Assumes nothing.
-use Prim.Native.Nat.{ℕ, zero, suc, _+_, _-_, _*_, _^_, _<_}
-use mathlib.Core.Path.{_≡_}
+use Prim.Native.Nat.{ℕ, _+_, _-_, _*_, _^_}
 use mathlib.Core.List.{List, [], _∷_}
 use mathlib.Core.Bool.{Bool, cond, _&&_}
-use lib.ListN.{length, drop}
+use lib.ListN.{drop}
 use lib.Seq.{slice}
 use lib.Dec.{ltb, leb, eqb}
 use Rattle.text_in.specs.declared.Number.{Number}

@@ -1,4 +1,4 @@
--- What an inner function says.
+-- What `digit` answers of a byte: its value as a digit, which is small.
 -- Assumes nothing.
 use Prim.Native.Nat.{ℕ, _<_}
 use mathlib.Core.Path.{_≡_}

@@ -25,6 +25,9 @@ pub enum Word {
     Large,
 }
 
+// The greatest number that fits a word.
+const LARGEST_WORD: u64 = 4294967295;
+
 // The place after the digits that stand at a place.
 fn digits_end(text: &[u8], at: usize) -> usize
     ensures { λ r. ⌜ r ≡ at + leading (drop at (now (text .entry))) ⌝ }
@@ -59,7 +62,7 @@ fn value(text: &[u8], at: usize, end: usize) -> Word
     let mut i = at;
     while i < end {
         v = 10 * v + digit(text[i]);
-        if 4294967295 < v {
+        if LARGEST_WORD < v {
             return Word::Large;
         }
         i += 1;

@@ -15,7 +15,7 @@ use lib.Seq.{take-suc, set-out, sets, length-sets}
 use lib.Dec.{leb, ltb, lit<, lit≤}
 use borrow.Author.Tests.{le-leb, lt-leb, lt-ltb, le-ltb, leb-true, leb-false, ltb-true, ltb-false}
 use Rattle.io.specs.Digits.{glyph, digits, Fewest}
-use Rattle.words.specs.Padded.{zeros, padded}
+use Rattle.words.specs.Padded.{zeros}
 use Rattle.words.proofs.Padded.{padded-none, sets-zeros}
 use Rattle.words.proofs.Shared.{case, cond-elim}
 use Rattle.refusal.specs.declared.Refusal.the-variants.{LentTooShort}
@@ -23,9 +23,9 @@ use Rattle.refusal.specs.declared.Answer.{Answer}
 use Rattle.refusal.specs.declared.Answer.the-variants.{Done, Refused}
 use Rattle.refusal.specs.Outcomes.{Gives}
 use Rattle.text_out.specs.Text.{reach, decimal, feed, textOut}
-use Rattle.text_out.specs.Write.{behind, Writes, endAt, Ends}
+use Rattle.text_out.specs.Write.{placeAfter, Writes, endAt, Ends}
 
--- ---- bytes behind bytes
+-- ---- bytes after bytes
 
 sets-append : (l : List ℕ) (i : ℕ) (xs ys : List ℕ) → sets l i (xs ++ ys) ≡ sets (sets l i xs) (i + length xs) ys
 sets-append l i [] ys = ap (λ (k : ℕ). sets l k ys) (sym (add-zero i))
@@ -38,15 +38,15 @@ sets-out : (l : List ℕ) (i : ℕ) (vs : List ℕ) → length l ≤ i → sets 
 sets-out l i [] h = refl
 sets-out l i (v ∷ vs) h = ap (λ (k : List ℕ). sets k (suc i) vs) (set-out l i v h) ∙ sets-out l (suc i) vs (omega arith)
 
-place-then : (n p : ℕ) (bs cs : List ℕ) → behind n (behind n p bs) cs ≡ behind n p (bs ++ cs)
-unfolding behind
+place-then : (n p : ℕ) (bs cs : List ℕ) → placeAfter n (placeAfter n p bs) cs ≡ placeAfter n p (bs ++ cs)
+unfolding placeAfter
 place-then n p [] cs = refl
-place-then n p (b ∷ bs) [] = ap (λ (l : List ℕ). behind n p (b ∷ l)) (sym (append-nil bs))
+place-then n p (b ∷ bs) [] = ap (λ (l : List ℕ). placeAfter n p (b ∷ l)) (sym (append-nil bs))
 place-then n p (b ∷ bs) (c ∷ cs) = omega (arith, length-append bs (c ∷ cs))
 
 -- from the place after them, or from where they would end
-bytes-then : (l : List ℕ) (p : ℕ) (bs cs : List ℕ) → sets (sets l p bs) (behind (length l) p bs) cs ≡ sets l p (bs ++ cs)
-unfolding behind
+bytes-then : (l : List ℕ) (p : ℕ) (bs cs : List ℕ) → sets (sets l p bs) (placeAfter (length l) p bs) cs ≡ sets l p (bs ++ cs)
+unfolding placeAfter
 bytes-then l p [] cs = refl
 bytes-then l p (b ∷ bs) cs =
     ⊎-elim
@@ -61,86 +61,87 @@ bytes-then l p (b ∷ bs) cs =
     ∙ sym (sets-append l p (b ∷ bs) cs ∙ sets-out (sets l p (b ∷ bs)) (p + length (b ∷ bs)) cs (omega arith)))
     (case (leb (p + length (b ∷ bs)) (length l)))
 
-writes-length : (a : List ℕ) (p : ℕ) (bs b : List ℕ) (q : ℕ) → Writes a p bs b q → length b ≡ length a
-writes-length a p bs b q x = ap length (x .written) ∙ length-sets a p bs
+writes-length : {a : List ℕ} {p : ℕ} {bs b : List ℕ} {q : ℕ} → Writes a p bs b q → length b ≡ length a
+writes-length {a} {p} {bs} x = ap length (x .written) ∙ length-sets a p bs
 
 pub writes-none : (a : List ℕ) (p : ℕ) → Writes a p [] a p
-unfolding behind
+unfolding placeAfter
 writes-none a p = record { written = refl; place = refl }
 
 -- one after another
-pub writes-then : (a : List ℕ) (p : ℕ) (bs b : List ℕ) (q : ℕ) (cs c : List ℕ) (r : ℕ) → Writes a p bs b q → Writes b q cs c r
+pub writes-then : {a : List ℕ} {p : ℕ} {bs b : List ℕ} {q : ℕ} {cs c : List ℕ} {r : ℕ} → Writes a p bs b q → Writes b q cs c r
     → Writes a p (bs ++ cs) c r
-writes-then a p bs b q cs c r x y =
-    let n = writes-length a p bs b q x in
+writes-then {a} {p} {bs} {cs = cs} x y =
+    let n = writes-length x in
     record {
       written = y .written ∙ (rw (x .written, x .place) (bytes-then a p bs cs));
       place = y .place ∙ (rw (n, x .place) (place-then (length a) p bs cs));
     }
 
 -- a name and its number after
-pub writes-named : (a : List ℕ) (p : ℕ) (bs b : List ℕ) (q : ℕ) (name digits : List ℕ) (c : List ℕ) (r : ℕ) → Writes a p bs b q
+pub writes-named : {a : List ℕ} {p : ℕ} {bs b : List ℕ} {q : ℕ} (name digits : List ℕ) {c : List ℕ} {r : ℕ} → Writes a p bs b q
     → Writes b q (name ++ digits) c r → Writes a p (bs ++ name ++ digits) c r
-writes-named a p bs b q name digits c r x y = rw (append-assoc bs name digits) (writes-then a p bs b q (name ++ digits) c r x y)
+writes-named {bs = bs} name digits x y = rw (append-assoc bs name digits) (writes-then x y)
 
 -- the first i bytes, and one more
-pub writes-next : (a : List ℕ) (p : ℕ) (bs b : List ℕ) (q i : ℕ) (c : List ℕ) (r : ℕ) → i < length bs → Writes a p (take i bs) b q
+pub writes-next : {a : List ℕ} {p : ℕ} {b : List ℕ} {q : ℕ} {c : List ℕ} {r : ℕ} (bs : List ℕ) (i : ℕ) → i < length bs → Writes a p (take i bs) b q
     → Writes b q (getD bs i 0 ∷ []) c r → Writes a p (take (i + 1) bs) c r
-writes-next a p bs b q i c r h x y =
+writes-next bs i h x y =
     let s : i + 1 ≡ suc i = omega arith in
-    rw (s, take-suc bs i 0 h) (writes-then a p (take i bs) b q (getD bs i 0 ∷ []) c r x y)
+    rw (s, take-suc bs i 0 h) (writes-then x y)
 
 -- what `put_byte` does, and where it does nothing
 pub byte-fits : (a : List ℕ) (p v : ℕ) → p < length a → Writes a p (v ∷ []) (set a p v) (p + 1)
-unfolding behind
+unfolding placeAfter
 byte-fits a p v h = record { written = refl; place = omega arith }
 
 pub byte-over : (a : List ℕ) (p v : ℕ) → length a ≤ p → Writes a p (v ∷ []) a (length a + 1)
-unfolding behind
+unfolding placeAfter
 byte-over a p v h = record { written = sym (set-out a p v h); place = omega arith }
 
 -- ---- a line's end
 
-module _ (a : List ℕ) (p : ℕ) (b : List ℕ) (end : ℕ) (line : Writes a p feed b end) where
+module _ {a : List ℕ} {p : ℕ} {b : List ℕ} {end : ℕ} (line : Writes a p feed b end) where
   place : end ≡ min (p + 1) (length a + 1)
-  unfolding behind
+  unfolding placeAfter
   place = line .place
 
   pub ends-fit : end ≤ length b → Ends (endAt a p) (Done end) b
   unfolding endAt
   ends-fit h =
-      let n = writes-length a p feed b end line in
+      let n = writes-length line in
       let l : p < length a = omega (arith, place) in
       rw (lt-ltb p (length a) l) (record { number = refl; count = omega (arith, place); bytes = line .written })
 
   pub ends-over : (after : List ℕ) → length b < end → after ≡ zeros (length b) → Ends (endAt a p) (Refused LentTooShort) after
   unfolding endAt
   ends-over after h z =
-      let n = writes-length a p feed b end line in
+      let n = writes-length line in
       let l : length a ≤ p = omega (arith, place) in
       rw (le-ltb p (length a) l) (record { number = refl; count = refl; bytes = z ∙ ap zeros n })
 
 -- ---- a text from the start of cleared bytes
 
-from-start : (n : ℕ) (text : List ℕ) → behind n 0 text ≡ min (length text) (n + 1)
-unfolding behind
+from-start : (n : ℕ) (text : List ℕ) → placeAfter n 0 text ≡ min (length text) (n + 1)
+unfolding placeAfter
 from-start n [] = omega arith
 from-start n (b ∷ bs) = omega arith
 
-module _ (whole a text b : List ℕ) (p : ℕ) (r : Answer) (c : List ℕ) (z : a ≡ zeros (length whole)) (x : Writes a 0 text b p) where
+module _ (whole text : List ℕ) {a b : List ℕ} {p : ℕ} (z : a ≡ zeros (length whole)) (x : Writes a 0 text b p) where
   lent : length a ≡ length whole
   lent = ap length z ∙ length-replicate (length whole) 0
 
   end-place : p ≡ min (length text) (length whole + 1)
-  end-place = x .place ∙ (ap (λ (n : ℕ). behind n 0 text) lent ∙ from-start (length whole) text)
+  end-place = x .place ∙ (ap (λ (n : ℕ). placeAfter n 0 text) lent ∙ from-start (length whole) text)
 
   long : length (text ++ feed) ≡ length text + 1
   long = length-append text feed
 
-  fits : length (text ++ feed) ≤ length whole → Ends (endAt b p) r c → Gives (textOut (text ++ feed) (length whole)) r whole c
+  fits : {r : Answer} {c : List ℕ} → length (text ++ feed) ≤ length whole → Ends (endAt b p) r c
+      → Gives (textOut (text ++ feed) (length whole)) r whole c
   unfolding textOut endAt
   fits h e =
-      let n = writes-length a 0 text b p x in
+      let n = writes-length x in
       let q : p ≡ 0 + length text = omega (arith, end-place, long) in
       let l : p < length b = omega (arith, long, lent) in
       let f = rw (lt-ltb p (length b) l) at e in
@@ -151,10 +152,11 @@ module _ (whole a text b : List ℕ) (p : ℕ) (r : Answer) (c : List ℕ) (z : 
         words = f .bytes ∙ (w ∙ sets-zeros (length whole) (text ++ feed) z h);
       })
 
-  over : length whole < length (text ++ feed) → Ends (endAt b p) r c → Gives (textOut (text ++ feed) (length whole)) r whole c
+  over : {r : Answer} {c : List ℕ} → length whole < length (text ++ feed) → Ends (endAt b p) r c
+      → Gives (textOut (text ++ feed) (length whole)) r whole c
   unfolding textOut endAt
   over h e =
-      let n = writes-length a 0 text b p x in
+      let n = writes-length x in
       let l : length b ≤ p = omega (arith, end-place, long, lent) in
       let f = rw (le-ltb p (length b) l) at e in
       rw (lt-leb (length (text ++ feed)) (length whole) h) (record {
@@ -163,7 +165,7 @@ module _ (whole a text b : List ℕ) (p : ℕ) (r : Answer) (c : List ℕ) (z : 
         words = f .bytes ∙ (ap zeros (n ∙ lent) ∙ sym (padded-none (length whole)));
       })
 
-  pub text-out : Ends (endAt b p) r c → Gives (textOut (text ++ feed) (length whole)) r whole c
+  pub text-out : {r : Answer} {c : List ℕ} → Ends (endAt b p) r c → Gives (textOut (text ++ feed) (length whole)) r whole c
   text-out e =
       ⊎-elim
       (λ t. fits (leb-true _ _ t) e)

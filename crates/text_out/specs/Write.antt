@@ -12,14 +12,14 @@ use Rattle.refusal.specs.declared.Answer.{Answer}
 use Rattle.refusal.specs.Refusals.{answerNumber, answerCount}
 
 -- the place after bytes that are written from a place on, of room bytes: one after the last where they pass it
-unfoldable pub behind : ℕ → ℕ → List ℕ → ℕ
-behind room at [] = at
-behind room at (b ∷ bs) = min (at + length (b ∷ bs)) (room + 1)
+unfoldable pub placeAfter : ℕ → ℕ → List ℕ → ℕ
+placeAfter room at [] = at
+placeAfter room at (b ∷ bs) = min (at + length (b ∷ bs)) (room + 1)
 
 -- bytes written one after another; those past the end are lost
 pub record Writes (before : List ℕ) (at : ℕ) (bytes : List ℕ) (after : List ℕ) (next : ℕ) : Type 0 where
   pub written : after ≡ sets before at bytes
-  pub place : next ≡ behind (length before) at bytes
+  pub place : next ≡ placeAfter (length before) at bytes
 
 -- a line feed at a place: the refusal's number, how many bytes the text then has, and the lent bytes
 pub record End : Type 0 where

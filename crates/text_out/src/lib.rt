@@ -1,6 +1,5 @@
 // Text written into a lent slice of bytes, piece by piece: bytes and decimal numbers, each at a place, and at last a line feed. Text that
 // doesn't fit is refused with 4, and then every lent byte is zero.
-ghost use mathlib.Core.Path.{_≡_};
 ghost use mathlib.Core.List.{[], _∷_, _++_};
 ghost use Rattle.text_out.specs.Text.{decimal};
 ghost use Rattle.text_out.specs.Write.{Writes, endAt, Ends};

@@ -15,7 +15,8 @@ use Rattle.refusal.specs.declared.Answer.the-variants.{Done, Refused}
 use Rattle.refusal.specs.Refusals.{refusalNumber}
 use Rattle.groups.specs.Built.{GroupWords}
 use Rattle.word_set.specs.Sets.{SetOf}
-use Rattle.word_set.specs.Found.{Found, Whole, Matched}
+use Rattle.word_set.specs.Found.{Found}
+use Rattle.word_set.specs.Steps.{Whole, Matched}
 use Rattle.word_set.specs.declared.Insertion.{Insertion}
 use Rattle.word_set.specs.declared.Insertion.the-variants.{Held, Full}
 use Rattle.word_set.proofs.Sets.{set-empty}
@@ -33,7 +34,15 @@ module _ {P : ℕ → Type 0} {fault : ℕ} {cs cs′ : List ℕ} {r : Answer} (
   whole = found-done n r d f
 
   pub held-fit : n ≤ length cs′
-  held-fit = omega (arith, whole .fits, whole .count, ap length (whole .words), length-padded (length cs) (whole .list) (omega (arith, whole .count, whole .fits)))
+  held-fit =
+      omega (
+        arith,
+        whole .fits,
+        whole .count,
+        ap length (whole .words),
+        length-padded (length cs) (whole .list)
+            (omega (arith, whole .count, whole .fits)),
+      )
 
   held-list : take n cs′ ≡ whole .list
   held-list = ap (take n) (whole .words) ∙ padded-take (length cs) n (whole .list) (whole .count)
@@ -45,17 +54,26 @@ module _ {P : ℕ → Type 0} {fault : ℕ} {cs cs′ : List ℕ} {r : Answer} (
   held-few = omega (arith, length-take-le n cs′ held-fit, whole .fits)
 
 module _ (w : Area) (q : List ℕ) (table : GroupWords) (strings out cs co : List ℕ) (zs : cs ≡ zeros (length strings)) (zo : co ≡ zeros (length out)) where
-  pub exit-fault : (why : Refusal) → refusalNumber why ≡ searchFault (length (w .file)) 0 (length q) (w .keys) → Searched w q table (Refused why) (typeWords strings out) (typeWords cs co)
+  pub exit-fault : (why : Refusal) → refusalNumber why ≡ searchFault (length (w .file)) 0 (length q) (w .keys)
+      → Searched w q table (Refused why) (typeWords strings out) (typeWords cs co)
   exit-fault why h =
       let o = owners-listed w q in
-      record { strings = o .list; owners = o .set; types = found-refused (types-found table w q) why _ (short-fault (searchFault (length (w .file)) 0 (length q) (w .keys)) (length strings) (o .list) why h) zo; cleared = zs }
+      record {
+        strings = o .list;
+        owners = o .set;
+        types = found-refused (types-found table w q) why _
+            (short-fault (searchFault (length (w .file)) 0 (length q) (w .keys)) (length strings) (o .list) why h) zo;
+        cleared = zs;
+      }
 
   module _ (z : 0 ≡ searchFault (length (w .file)) 0 (length q) (w .keys)) where
     pub exit-empty : length q ≡ 0 → Searched w q table (Done 0) (typeWords strings out) (typeWords cs co)
     exit-empty h = record {
       strings = [];
       owners = set-empty (λ x o. omega (arith, o .asked));
-      types = found-none (λ x t. omega (arith, t .owns .asked)) _ (short-none (searchFault (length (w .file)) 0 (length q) (w .keys)) (length strings) [] z (omega arith)) zo;
+      types =
+          found-none (λ x t. omega (arith, t .owns .asked)) _
+          (short-none (searchFault (length (w .file)) 0 (length q) (w .keys)) (length strings) [] z (omega arith)) zo;
       cleared = zs;
     }
 
@@ -68,7 +86,9 @@ module _ (w : Area) (q : List ℕ) (table : GroupWords) (strings out cs co : Lis
         record {
           strings = o .list;
           owners = o .set;
-          types = found-refused (types-found table w q) LentTooShort _ (short-four (searchFault (length (w .file)) 0 (length q) (w .keys)) (length strings) (o .list) z (omega arith)) zo;
+          types =
+              found-refused (types-found table w q) LentTooShort _
+              (short-four (searchFault (length (w .file)) 0 (length q) (w .keys)) (length strings) (o .list) z (omega arith)) zo;
           cleared = found-cleared why r h f ∙ ap zeros l;
         }
 
@@ -85,7 +105,8 @@ module _ (w : Area) (q : List ℕ) (table : GroupWords) (strings out cs co : Lis
       types : Matched (TypeFound w q table) co co′ t
       types = all-types table w q (take n cs′) (held-set f n d) m
 
-      pub exit-types : (after : List ℕ) → t ≡ Full → length co′ ≡ length co → after ≡ zeros (length co′) → Searched w q table (Refused LentTooShort) (typeWords strings out) (typeWords cs″ after)
+      pub exit-types : (after : List ℕ) → t ≡ Full → length co′ ≡ length co → after ≡ zeros (length co′)
+          → Searched w q table (Refused LentTooShort) (typeWords strings out) (typeWords cs″ after)
       exit-types after h j y = record {
         strings = take n cs′;
         owners = held-set f n d;

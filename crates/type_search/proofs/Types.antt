@@ -15,11 +15,12 @@ use Rattle.refusal.specs.Refusals.{refusalNumber}
 use Rattle.groups.specs.Stretch.{stretchOf}
 use Rattle.groups.specs.Built.{GroupWords}
 use Rattle.word_set.specs.Sets.{In, SetOf}
-use Rattle.word_set.specs.Found.{Matched}
+use Rattle.word_set.specs.Steps.{Matched}
 use Rattle.word_set.specs.declared.Insertion.{Insertion}
 use Rattle.word_set.specs.declared.Insertion.the-variants.{Held, Full}
-use Rattle.word_set.proofs.Sets.{in-none, in-here, in-cons, in-cases, in-drop-here, in-drop-later, in-drop-cases, in-drop-none, Listed, set-none, set-same, set-union}
-use Rattle.index_set.specs.Marked.{AddedAll}
+use Rattle.word_set.proofs.Sets.{in-none, in-here, in-cons, in-cases, in-drop-here, in-drop-later, in-drop-cases, in-drop-none, Listed, set-none}
+use Rattle.word_set.proofs.Sets.{set-same, set-union}
+use Rattle.index_set.specs.Marked.{SetWords, AddedAll}
 use Rattle.index_set.proofs.Marking.{Marking, mark-all, mark-all-full}
 use Rattle.refusal.proofs.Numbers.{numbered}
 use Rattle.word_set.proofs.Found.{matched-same}
@@ -35,10 +36,12 @@ module _ (table : GroupWords) where
   types-none strings i h x t = in-drop-none strings i h (t .listed)
 
   module _ (strings : List ℕ) (i : ℕ) (h : i < length strings) where
-    types-cases : (x : ℕ) → TypesOf table (drop i strings) x → In x (stretchOf (table .offs) (table .ids) (getD strings i 0)) ⊎ TypesOf table (drop (i + 1) strings) x
+    types-cases : (x : ℕ) → TypesOf table (drop i strings) x
+        → In x (stretchOf (table .offs) (table .ids) (getD strings i 0)) ⊎ TypesOf table (drop (i + 1) strings) x
     types-cases x t =
         ⊎-elim (λ (e : t .string ≡ getD strings i 0). inl (subst (λ (k : ℕ). In x (stretchOf (table .offs) (table .ids) k)) e (t .among)))
-        (λ (m : In (t .string) (drop (i + 1) strings)). inr record { string = t .string; listed = m; among = t .among }) (in-drop-cases strings i h (t .string) (t .listed))
+        (λ (m : In (t .string) (drop (i + 1) strings)). inr record { string = t .string; listed = m; among = t .among })
+        (in-drop-cases strings i h (t .string) (t .listed))
 
     types-here : (x : ℕ) → In x (stretchOf (table .offs) (table .ids) (getD strings i 0)) → TypesOf table (drop i strings) x
     types-here x m = record { string = getD strings i 0; listed = in-drop-here strings i h; among = m }
@@ -46,15 +49,16 @@ module _ (table : GroupWords) where
     types-later : (x : ℕ) → TypesOf table (drop (i + 1) strings) x → TypesOf table (drop i strings) x
     types-later x t = record { string = t .string; listed = in-drop-later strings i h (t .string) (t .listed); among = t .among }
 
-    module _ {room n : ℕ} {marks marks′ out after : List ℕ} {r : Insertion} (c : Marking (TypesOf table strings) (TypesOf table (drop i strings)) marks room n out)
-        (group : List ℕ) (g : group ≡ stretchOf (table .offs) (table .ids) (getD strings i 0)) (add : AddedAll group n marks marks′ out after r) where
+    module _ {room n : ℕ} {w after : SetWords} {r : Insertion} (c : Marking (TypesOf table strings) (TypesOf table (drop i strings)) room n w)
+        (group : List ℕ) (g : group ≡ stretchOf (table .offs) (table .ids) (getD strings i 0)) (add : AddedAll group n w after r) where
       in-group : (x : ℕ) → In x group → TypesOf table (drop i strings) x
       in-group x m = types-here x (subst (In x) g m)
 
-      pub turn : (m : ℕ) → r ≡ Held m → Marking (TypesOf table strings) (TypesOf table (drop (i + 1) strings)) marks′ room m after
+      pub turn : (m : ℕ) → r ≡ Held m → Marking (TypesOf table strings) (TypesOf table (drop (i + 1) strings)) room m after
       turn m e =
           mark-all c types-later in-group m
-          (λ x t. ⊎-elim (λ (k : In x (stretchOf (table .offs) (table .ids) (getD strings i 0))). inl (subst (In x) (sym g) k)) (λ (k : TypesOf table (drop (i + 1) strings) x). inr k) (types-cases x t)) add e
+          (λ x t. ⊎-elim (λ (k : In x (stretchOf (table .offs) (table .ids) (getD strings i 0))). inl (subst (In x) (sym g) k))
+          (λ (k : TypesOf table (drop (i + 1) strings) x). inr k) (types-cases x t)) add e
 
       pub no-room : r ≡ Full → (l : List ℕ) → SetOf (TypesOf table strings) l → room < length l
       no-room e = mark-all-full c in-group add e
@@ -68,7 +72,8 @@ module _ (table : GroupWords) where
         set = set-same
             (λ x q. ⊎-elim (λ (t : TypesOf table ys x). record { string = t .string; listed = in-cons y (t .listed); among = t .among })
             (λ (m : In x (stretchOf (table .offs) (table .ids) y)). record { string = y; listed = in-here y ys; among = m }) q)
-            (λ x t. ⊎-elim (λ (e : t .string ≡ y). inr (subst (λ (k : ℕ). In x (stretchOf (table .offs) (table .ids) k)) e (t .among))) (λ (m : In (t .string) ys). inl record { string = t .string; listed = m; among = t .among }) (in-cases (t .listed)))
+            (λ x t. ⊎-elim (λ (e : t .string ≡ y). inr (subst (λ (k : ℕ). In x (stretchOf (table .offs) (table .ids) k)) e (t .among)))
+            (λ (m : In (t .string) ys). inl record { string = t .string; listed = m; among = t .among }) (in-cases (t .listed)))
             (l .set);
       }
 

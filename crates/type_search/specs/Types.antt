@@ -36,5 +36,6 @@ orShort fault room xs = cond (eqb fault 0) (cond (ltb room (length xs)) 4 0) fau
 pub record Searched (w : Area) (q : List ℕ) (table : GroupWords) (r : Answer) (before after : TypeWords) : Type 0 where
   pub strings : List ℕ
   pub owners : SetOf (Owns w q) strings
-  pub types : Found (TypeFound w q table) (orShort (searchFault (length (w .file)) 0 (length q) (w .keys)) (length (before .strings)) strings) r (before .types) (after .types)
+  pub types : Found (TypeFound w q table) (orShort (searchFault (length (w .file)) 0 (length q) (w .keys)) (length (before .strings)) strings) r
+      (before .types) (after .types)
   pub cleared : after .strings ≡ zeros (length (before .strings))

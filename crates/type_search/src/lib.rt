@@ -3,10 +3,8 @@ use refusal::Answer;
 use refusal::Refusal;
 use word_set::Fault;
 use word_set::Insertion;
-ghost use mathlib.Core.Path.{_≡_};
-ghost use lib.ListN.{length};
-ghost use Rattle.word_set.specs.Found.{Matched};
-ghost use Rattle.index_set.specs.Marked.{Blank};
+ghost use Rattle.word_set.specs.Steps.{Matched};
+ghost use Rattle.index_set.specs.Steps.{Blank};
 ghost use Rattle.type_search.specs.Steps.{TypesOf, Ready};
 ghost use Rattle.groups.specs.Built.{groupWords};
 ghost use Rattle.string_search.specs.Search.{area};
@@ -42,7 +40,10 @@ fn collect_marked(
     index_set::gather(marks, out, n)
 }
 
-// With marks for 65,536 types: an instruction names no more.
+// How many types 1,024 words of marks have a bit for: an instruction names no more.
+const FEW: u32 = 65536;
+
+// With marks for few types.
 fn collect_few(str_offsets: &[u32], type_idxs: &[u32], found: &[u32], out: &mut [u32]) -> Insertion
     requires { ⌜ Ready (now out) ⌝ }
     ensures { λ r.
@@ -82,7 +83,7 @@ fn collect(str_offsets: &[u32], type_idxs: &[u32], found: &[u32], out: &mut [u32
         let table = groupWords (now («str_offsets» .entry)) (now («type_idxs» .entry)) in
         ⌜ Matched (TypesOf table (now (found .entry))) (now (out .entry)) (now (out .exit)) r ⌝ }
 {
-    if greatest(type_idxs) < 65536 {
+    if greatest(type_idxs) < FEW {
         return collect_few(str_offsets, type_idxs, found, out);
     }
     collect_many(str_offsets, type_idxs, found, out)

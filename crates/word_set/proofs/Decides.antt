@@ -4,7 +4,7 @@ use Prim.Native.Nat.{ℕ}
 use mathlib.Core.Path.{_≡_}
 use mathlib.Core.Bool.{true, false}
 use native.Mathlib.Omega.{arith}
-use Rattle.word_set.specs.Decides.{Decides}
+use Rattle.word_set.specs.Steps.{Decides}
 
 pub decided-yes : {P : Type 0} → P → Decides P true
 decided-yes p = record { yes = λ e. p; no = λ e. absurd (let z : _≡_ {A = ℕ} 0 1 = cc in omega arith) }

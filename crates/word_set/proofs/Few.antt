@@ -33,8 +33,8 @@ still-in (suc p) {x} (y ∷ ys) n i =
     (λ (m : In x ys). in-cons y (still-in p ys n m))
     (in-cases i)
 
-behind-first : (x : ℕ) (xs : List ℕ) → Rising (x ∷ xs) → Rising xs
-behind-first x xs r i j a b = r (suc i) (suc j) (omega arith) (omega arith)
+after-first : (x : ℕ) (xs : List ℕ) → Rising (x ∷ xs) → Rising xs
+after-first x xs r i j a b = r (suc i) (suc j) (omega arith) (omega arith)
 
 above-first : {x z : ℕ} {xs : List ℕ} → Rising (x ∷ xs) → In z xs → x < z
 above-first r i = omega (arith, r 0 (suc (i .at)) (omega arith) (omega (arith, i .inside)), i .is)
@@ -45,7 +45,7 @@ few-in [] ys r f = omega arith
 few-in (x ∷ xs) ys r f =
     let m : In x ys = f x (in-here x xs) in
     let rest : length xs ≤ length (without-at (m .at) ys) =
-    few-in xs (without-at (m .at) ys) (behind-first x xs r)
+    few-in xs (without-at (m .at) ys) (after-first x xs r)
     (λ z i. still-in (m .at) ys (λ e. omega (arith, above-first r i, e, m .is)) (f z (in-cons x i))) in
     omega (arith, rest, one-less (m .at) ys (m .inside))
 

@@ -22,7 +22,8 @@ use Rattle.refusal.proofs.Numbers.{numbered}
 use Rattle.word_set.specs.Sets.{SetOf}
 use Rattle.word_set.specs.declared.Insertion.{Insertion}
 use Rattle.word_set.specs.declared.Insertion.the-variants.{Held, Full}
-use Rattle.word_set.specs.Found.{Found, fitted, Whole, Matched, all, over}
+use Rattle.word_set.specs.Found.{Found, fitted}
+use Rattle.word_set.specs.Steps.{Whole, Matched, all, over}
 use Rattle.word_set.proofs.Sets.{Listed, set-empty, set-same, set-unique}
 
 pub no-words : (xs : List ℕ) → length xs ≡ 0 → xs ≡ []
@@ -33,7 +34,8 @@ none-held : (n : ℕ) (after : List ℕ) → after ≡ zeros n → after ≡ pad
 none-held n after z = z ∙ sym (padded-none n)
 
 module _ {P : ℕ → Type 0} {before after : List ℕ} where
-  pub found-refused : Listed P → (why : Refusal) (fault : ℕ) → refusalNumber why ≡ fault → after ≡ zeros (length before) → Found P fault (Refused why) before after
+  pub found-refused : Listed P → (why : Refusal) (fault : ℕ) → refusalNumber why ≡ fault → after ≡ zeros (length before)
+      → Found P fault (Refused why) before after
   found-refused l why fault e z =
       let n : eqb fault 0 ≡ false = rw (← e) (numbered why) in
       record { list = l .list; set = l .set; gives = record { number = rw n e; count = rw n; words = rw n (none-held (length before) after z) } }
@@ -42,9 +44,14 @@ module _ {P : ℕ → Type 0} {before after : List ℕ} where
       → Found P fault (Refused LentTooShort) before after
   found-short l fault f more z =
       let t : ltb (length before) (length (l .list)) ≡ true = lt-ltb _ _ (more (l .list) (l .set)) in
-      record { list = l .list; set = l .set; gives = record { number = rw (← f, t); count = rw (← f, t); words = rw (← f, t) (none-held (length before) after z) } }
+      record {
+        list = l .list;
+        set = l .set;
+        gives = record { number = rw (← f, t); count = rw (← f, t); words = rw (← f, t) (none-held (length before) after z) };
+      }
 
-  pub found-all : (list : List ℕ) → SetOf P list → (fault n : ℕ) → 0 ≡ fault → length list ≡ n → n ≤ length before → after ≡ padded (length before) list
+  pub found-all : (list : List ℕ) → SetOf P list → (fault n : ℕ) → 0 ≡ fault → length list ≡ n → n ≤ length before
+      → after ≡ padded (length before) list
       → Found P fault (Done n) before after
   found-all list s fault n f c h w =
       let t : ltb (length before) (length list) ≡ false = le-ltb (length before) (length list) (omega arith) in
@@ -69,7 +76,8 @@ module _ {P : ℕ → Type 0} {fault : ℕ} {before after : List ℕ} where
           let w : after ≡ padded (length before) (f .list) = rw (h, k) at (f .gives .words) in
           record { list = f .list; set = f .set; count = sym c; fits = omega (arith, ltb-false (length before) (length (f .list)) k); words = w }
 
-  pub found-over : (why : Refusal) (r : Answer) → r ≡ Refused why → 0 ≡ fault → Found P fault r before after → (l : List ℕ) → SetOf P l → length before < length l
+  pub found-over : (why : Refusal) (r : Answer) → r ≡ Refused why → 0 ≡ fault → Found P fault r before after → (l : List ℕ) → SetOf P l
+      → length before < length l
   found-over why r e z f l s = go (ltb (length before) (length (f .list))) refl
     where
       same : f .list ≡ l
@@ -98,13 +106,15 @@ pub zeros-length : (n : ℕ) (out : List ℕ) → out ≡ zeros n → length out
 zeros-length n out z = ap length z ∙ length-replicate n 0
 
 -- the set said in another way
-pub matched-same : {P Q : ℕ → Type 0} {out out′ : List ℕ} {r : Insertion} → ((x : ℕ) → P x → Q x) → ((x : ℕ) → Q x → P x) → Matched P out out′ r → Matched Q out out′ r
+pub matched-same : {P Q : ℕ → Type 0} {out out′ : List ℕ} {r : Insertion} → ((x : ℕ) → P x → Q x) → ((x : ℕ) → Q x → P x) → Matched P out out′ r
+    → Matched Q out out′ r
 matched-same f g (all n h w) = all n h record { list = w .list; set = set-same f g (w .set); count = w .count; fits = w .fits; words = w .words }
 matched-same f g (over h more) = over h (λ l s. more l (set-same g f s))
 
 -- cleared words `out`, the set collected in them, and the answer
 module _ {P : ℕ → Type 0} {out out′ : List ℕ} {r : Insertion} (m : Matched P out out′ r) (fault : ℕ) (f : 0 ≡ fault) (before : List ℕ) (same : length out ≡ length before) where
-  pub exit-short : Listed P → (after : List ℕ) → r ≡ Full → length out′ ≡ length out → after ≡ zeros (length out′) → Found P fault (Refused LentTooShort) before after
+  pub exit-short : Listed P → (after : List ℕ) → r ≡ Full → length out′ ≡ length out → after ≡ zeros (length out′)
+      → Found P fault (Refused LentTooShort) before after
   exit-short some after h k z = go m
     where
       go : Matched P out out′ r → Found P fault (Refused LentTooShort) before after

@@ -1,3 +1,3 @@
-pub mod Decides
 pub mod Sets
 pub mod Found
+pub mod Steps

@@ -1,6 +1,6 @@
 -- A `match` on a number against a definition that computes: an arm is right since one test passes at each of its numbers.
 -- Assumes nothing.
-use mathlib.Core.Path.{_≡_, refl, subst, sym}
+use mathlib.Core.Path.{_≡_, subst, sym}
 use mathlib.Core.Bool.{Bool, true, false, _&&_, _||_}
 use mathlib.Core.List.{List, [], _∷_}
 use mathlib.Core.Logic.{_⊎_, inl, inr, ⊎-elim}
@@ -47,10 +47,12 @@ no-key : (kss : List (List ℕ)) (x : ℕ) → Rest kss x → T (anyKey kss x) �
 no-key [] x r t = t
 no-key (ks ∷ kss) x r t = no-key kss x (r .0) (or-right (hasKey ks x) (anyKey kss x) t (λ h. r .1 (hit ks x h)))
 
--- an arm of a range, or the rest
-pub ranged : (f : ℕ → ℕ) (kss : List (List ℕ)) (r lo n x : ℕ) → T (upto (λ (y : ℕ). anyKey kss y || eqb r (f y)) n lo) → lo ≤ x → x < lo + n → Rest kss x → r ≡ f x
-ranged f kss r lo n x t h k none =
-    eqb→eq r (f x) (or-right (anyKey kss x) (eqb r (f x)) (upto-at (λ (y : ℕ). anyKey kss y || eqb r (f y)) n lo x t h k) (no-key kss x none))
+-- an arm of a range, or the rest: of the n numbers from lo those that are no key
+pub ranged : (f : ℕ → ℕ) (kss : List (List ℕ)) (r lo n : ℕ) {x : ℕ} → T (upto (λ (y : ℕ). anyKey kss y || eqb r (f y)) n lo)
+    → (lo ≤ x) × (x < lo + n) → Rest kss x → r ≡ f x
+ranged f kss r lo n {x} t h none =
+    eqb→eq r (f x)
+    (or-right (anyKey kss x) (eqb r (f x)) (upto-at (λ (y : ℕ). anyKey kss y || eqb r (f y)) n lo x t (h .0) (h .1)) (no-key kss x none))
 
 abbrev pub eachKey : (ℕ → Bool) → List ℕ → Bool
 eachKey p [] = true
@@ -60,5 +62,6 @@ eachKey p (k ∷ ks) = p k && eachKey p ks
 pub keyed : (f : ℕ → ℕ) (r : ℕ) (ks : List ℕ) (x : ℕ) → T (eachKey (λ (k : ℕ). eqb r (f k)) ks) → OneOf ks x → r ≡ f x
 keyed f r [] x t o = absurd o
 keyed f r (k ∷ []) x t o = subst (λ (y : ℕ). r ≡ f y) (sym o) (eqb→eq r (f k) (and-left (eqb r (f k)) true t))
-keyed f r (k ∷ k′ ∷ ks) x t (inl e) = subst (λ (y : ℕ). r ≡ f y) (sym e) (eqb→eq r (f k) (and-left (eqb r (f k)) (eachKey (λ (j : ℕ). eqb r (f j)) (k′ ∷ ks)) t))
+keyed f r (k ∷ k′ ∷ ks) x t (inl e) =
+    subst (λ (y : ℕ). r ≡ f y) (sym e) (eqb→eq r (f k) (and-left (eqb r (f k)) (eachKey (λ (j : ℕ). eqb r (f j)) (k′ ∷ ks)) t))
 keyed f r (k ∷ k′ ∷ ks) x t (inr o) = keyed f r (k′ ∷ ks) x (and-right (eqb r (f k)) (eachKey (λ (j : ℕ). eqb r (f j)) (k′ ∷ ks)) t) o

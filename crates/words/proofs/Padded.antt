@@ -4,11 +4,12 @@
 --     part       length-part
 --     stretch    length-stretch, stretch-padded, lent-fill
 -- Assumes nothing.
-use mathlib.Core.Path.{_≡_, refl, sym, ap, _∙_}
+use mathlib.Core.Path.{_≡_, refl, ap, _∙_}
 use mathlib.Core.List.{List, [], _∷_, _++_, append-assoc, append-nil}
 use Prim.Native.Nat.{ℕ, zero, suc, _+_, _-_, _≤_, _<_}
 use native.Mathlib.Omega.{arith}
-use lib.ListN.{length, replicate, take, drop, getD, set, length-append, length-replicate, replicate-append-replicate, length-take, length-drop, length-set}
+use lib.ListN.{length, replicate, take, drop, getD, set, length-append, length-replicate, replicate-append-replicate, length-take, length-drop}
+use lib.ListN.{length-set}
 use lib.Seq.{sets, sets-eq, take-append-le, drop-append-le, set-append-left, set-at}
 use Rattle.words.specs.Padded.{zeros, padded, part, stretch}
 

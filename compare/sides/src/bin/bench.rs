@@ -194,7 +194,7 @@ fn items(file: Vec<u8>) -> Vec<Item> {
         let (ours, lent, _) = fitted(scan(buf, from, to, kind, wanted), 0);
         add(&format!("scan, {}, 1 wanted", theirs::kind_name(kind)), ours, lent, rust_scan(dex, from, to, kind, wanted));
     }
-    // Three MiB of code: the file's own, one copy behind another.
+    // Three MiB of code: the file's own, one copy after another.
     let code = &buf[from as usize..to as usize / 2 * 2];
     let long: Vec<u8> = code.iter().copied().cycle().take(3 << 20).collect();
     let mut case = Case::new(SCAN);

@@ -26,8 +26,9 @@ loop-holds c = record { rest = refl; most = omega arith; place = omega arith; fe
 class-def-requires : tie.Need-class-def-requires Inv-loop μ-loop
 class-def-requires c κs =
     let at-loop = c .before .before .before in
+    let at-entry = at-loop .before .before .before .before .before in
     let x = at-loop .loop .inv in
-    record { small = at-loop .before .before .before .before .before .pre; place = omega arith; few = omega arith }
+    record { small = at-entry .pre; place = omega arith; few = omega arith }
 
 enum-known-found : tie.Need-enum-known-found Inv-loop μ-loop
 enum-known-found c = search needs
@@ -46,12 +47,15 @@ loop-less c = search needs
 
 loop-again : tie.Need-loop-again Inv-loop μ-loop
 loop-again c =
-    let at-call = c .before .before .before .before .before .before .before in
+    let at-starts = c .before .before .before .before in
+    let at-triples = at-starts .before .before in
+    let at-call = at-triples .before in
     let at-test = at-call .before .before .before in
     let at-loop = at-test .before in
-    bydef-again (at-loop .loop .inv) (at-loop .before .before .before .before .before .pre) (at-test .loop-test .taken) _
-    (def-told _ _ _ _ _ _ (at-call .class-def .ensures) _ _ (c .before .found .given .1))
-    (record { triples = c .before .before .before .before .before .before .triples .given; starts = c .before .before .before .before .starts .given })
+    let at-entry = at-loop .before .before .before .before .before in
+    bydef-again (at-loop .loop .inv) (at-entry .pre) (at-test .loop-test .taken)
+    (def-told _ _ _ _ _ _ (at-call .class-def .ensures) (c .before .found .given .1))
+    (record { triples = at-triples .triples .given; starts = at-starts .starts .given })
 
 enum-known-r : tie.Need-enum-known-r Inv-loop μ-loop
 enum-known-r c = search needs
@@ -66,7 +70,7 @@ returns : tie.Need-returns Inv-loop μ-loop
 returns c =
     let at-call = c .before .before .before .before .before .before .before in
     refused-seen _ _ _
-    (defined-no _ _ _ _ _ _ _ (omega arith) (def-refused _ _ _ _ _ _ (at-call .class-def .ensures) _ (c .before .r .given .1))
+    (defined-no _ _ _ _ _ (omega arith) (def-refused _ _ _ _ _ _ (at-call .class-def .ensures) (c .before .r .given .1))
     (at-call .before .before .before .before .loop .inv .rest))
 
 same-length-3 : tie.Need-same-length-3 Inv-loop μ-loop
@@ -76,7 +80,7 @@ same-length-4 : tie.Need-same-length-4 Inv-loop μ-loop
 same-length-4 c = search needs
 
 returns-2 : tie.Need-returns-2 Inv-loop μ-loop
-returns-2 c = found-seen _ _ _ _ (defined-end _ _ _ _ _ _ (omega arith) (c .before .loop .inv .rest))
+returns-2 c = found-seen _ _ _ _ (defined-end _ _ _ _ _ (omega arith) (c .before .loop .inv .rest))
 
 pub build-map-bydef-spec : {M : Type 1} → statement M
 build-map-bydef-spec =

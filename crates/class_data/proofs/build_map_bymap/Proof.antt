@@ -46,7 +46,8 @@ loop-holds c = record {
 class-data-parse-requires : tie.Need-class-data-parse-requires Inv-loop μ-loop
 class-data-parse-requires c κs =
     let at-loop = c .before .before .before in
-    bymap-few (at-loop .loop .inv) (at-loop .before .before .before .before .before .before .pre .small) (omega arith)
+    let at-entry = at-loop .before .before .before .before .before .before in
+    bymap-few (at-loop .loop .inv) (at-entry .pre .small) (omega arith)
 
 enum-known-next : tie.Need-enum-known-next Inv-loop μ-loop
 enum-known-next c = search needs
@@ -59,12 +60,15 @@ loop-less c = search needs
 
 loop-again : tie.Need-loop-again Inv-loop μ-loop
 loop-again c =
-    let at-call = c .before .before .before .before .before .before .before in
+    let at-starts = c .before .before .before .before in
+    let at-triples = at-starts .before .before in
+    let at-call = at-triples .before in
     let at-test = at-call .before .before .before in
     let at-loop = at-test .before in
-    bymap-again (at-loop .loop .inv) (at-loop .before .before .before .before .before .before .pre .small) (at-test .loop-test .taken) _ _
+    let at-entry = at-loop .before .before .before .before .before .before in
+    bymap-again (at-loop .loop .inv) (at-entry .pre .small) (at-test .loop-test .taken)
     (seen-found _ _ _ (at-call .class-data-parse .ensures) _ _ (c .before .next .given .1))
-    (record { triples = c .before .before .before .before .before .before .triples .given; starts = c .before .before .before .before .starts .given })
+    (record { triples = at-triples .triples .given; starts = at-starts .starts .given })
 
 enum-known-r : tie.Need-enum-known-r Inv-loop μ-loop
 enum-known-r c = search needs
@@ -79,7 +83,7 @@ returns : tie.Need-returns Inv-loop μ-loop
 returns c =
     let at-call = c .before .before .before .before .before .before .before in
     refused-seen _ _ _
-    (successive-no _ _ _ _ _ _ _ (omega arith) (seen-refused _ _ _ (at-call .class-data-parse .ensures) _ (c .before .r .given .1))
+    (successive-no _ _ _ _ _ (omega arith) (seen-refused _ _ _ (at-call .class-data-parse .ensures) _ (c .before .r .given .1))
     (at-call .before .before .before .before .loop .inv .rest))
 
 same-length-3 : tie.Need-same-length-3 Inv-loop μ-loop
@@ -89,7 +93,7 @@ same-length-4 : tie.Need-same-length-4 Inv-loop μ-loop
 same-length-4 c = search needs
 
 returns-2 : tie.Need-returns-2 Inv-loop μ-loop
-returns-2 c = found-seen _ _ _ _ (successive-end _ _ _ _ _ _ (omega arith) (c .before .loop .inv .rest))
+returns-2 c = found-seen _ _ _ _ (successive-end _ _ _ _ _ (omega arith) (c .before .loop .inv .rest))
 
 pub build-map-bymap-spec : {M : Type 1} → statement M
 build-map-bymap-spec =

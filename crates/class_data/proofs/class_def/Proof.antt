@@ -26,7 +26,7 @@ returns c = def-outside _ _ _ _ _ (read32-outside _ _ (met (c .enum-told .given 
 returns-2 : tie.Need-returns-2
 returns-2 c =
     let at-off = c .before .before in
-    def-none _ _ _ _ _ (read32-value _ _ _ (met (at-off .off .given .1) (at-off .before .before .read-u32 .ensures))) _ (omega arith)
+    def-none _ _ _ _ (read32-value _ _ _ (met (at-off .off .given .1) (at-off .before .before .read-u32 .ensures))) _ (omega arith)
 
 cast-class-data-parse : tie.Need-cast-class-data-parse
 cast-class-data-parse c = search needs
@@ -47,7 +47,7 @@ returns-3 c =
     let at-call = c .before .before .before .before in
     let at-if = at-call .before .before .before in
     let at-off = at-if .before .before in
-    def-some _ _ _ _ _ (read32-value _ _ _ (met (at-off .off .given .1) (at-off .before .before .read-u32 .ensures))) _ _ (at-if .if1 .left)
+    def-some _ _ _ _ (read32-value _ _ _ (met (at-off .off .given .1) (at-off .before .before .read-u32 .ensures))) _ _ (at-if .if1 .left)
     (at-call .class-data-parse .ensures)
 
 pub class-def-spec : {M : Type 1} → statement M

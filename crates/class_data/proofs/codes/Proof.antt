@@ -28,7 +28,9 @@ same-length-2 : tie.Need-same-length-2
 same-length-2 c = search needs
 
 returns : tie.Need-returns
-returns c = done-told _ _ _ _ _ (c .before .before .before .before .before .before .before .walk-fitting .ensures) _ (c .before .count .given .1)
+returns c =
+    let at-walk = c .before .before .before .before .before .before .before in
+    done-told _ _ _ _ _ (at-walk .walk-fitting .ensures) (c .before .count .given .1)
 
 same-length-3 : tie.Need-same-length-3
 same-length-3 c = search needs
@@ -38,13 +40,17 @@ same-length-4 c = search needs
 
 returns-2 : tie.Need-returns-2
 returns-2 c =
-    let at-refused = c .before .before .before .before .before .before .before .before .before in
-    let at-walk = at-refused .before .before .before .before .before .before in
+    let at-clear2 = c .before .before in
+    let at-clear = at-clear2 .before .before .before .before in
+    let at-refused = at-clear .before .before .before in
+    let at-starts = at-refused .before .before .before in
+    let at-triples = at-starts .before .before in
+    let at-walk = at-triples .before in
     let p = at-walk .walk-fitting in
-    gives-refused _ _ _ _ _ (refused-told _ _ _ _ _ (p .ensures) _ (at-refused .r .given .1))
+    gives-refused (refused-told _ _ _ _ _ (p .ensures) (at-refused .r .given .1))
     (cleared-again {mid = codeWords (p .last .1 .1 .0) (p .last .1 .1 .1 .0)}
-    (record { triples = c .before .before .before .before .before .before .clear .ensures; starts = c .before .before .clear2 .ensures })
-    (record { triples = at-refused .before .before .before .before .before .triples .given; starts = at-refused .before .before .before .starts .given }))
+    (record { triples = at-clear .clear .ensures; starts = at-clear2 .clear2 .ensures })
+    (record { triples = at-triples .triples .given; starts = at-starts .starts .given }))
 
 pub codes-spec : {M : Type 1} → statement M
 codes-spec =

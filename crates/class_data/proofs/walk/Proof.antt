@@ -36,7 +36,7 @@ returns c =
     let at-walk = c .before .before .before .before in
     let at-entry = at-walk .before .before .before .before in
     let e = place-some _ _ (at-entry .before .before .map-entry .ensures) _ (at-entry .entry .given .1) in
-    by-map _ _ _ _ _ e (at-walk .build-map-bymap .ensures)
+    by-map _ _ _ e (at-walk .build-map-bymap .ensures)
 
 same-length-3 : tie.Need-same-length-3
 same-length-3 c = search needs
@@ -49,7 +49,7 @@ returns-2 c =
     let at-walk = c .before .before .before .before in
     let at-nowhere = at-walk .before .before .before in
     let e = place-none _ _ (at-nowhere .before .before .map-entry .ensures) (at-nowhere .enum-told .given .1) in
-    by-def _ _ _ _ e (at-walk .build-map-bydef .ensures)
+    by-def _ _ _ e (at-walk .build-map-bydef .ensures)
 
 pub walk-spec : {M : Type 1} → statement M
 walk-spec =

@@ -19,19 +19,26 @@ use Rattle.class_data.proofs.walk_fitting.Tie as tie
 abbrev lent : tie.Start → CodeWords
 lent c = codeWords (c .args .triples .now) (c .args .starts .now)
 
--- what was tested before the walk
-abbrev at-entry : tie.After-walk → tie.Start
-at-entry c = c .before .before .before .before .before .before .before .before .before .before .before .before .before .before .before .before .before .before .before .before
+-- ---- before the words were cleared: the start words suffice, the size is not too large, and the entry
+abbrev at-clear : tie.After-clear2 → tie.After-clear
+at-clear c = c .before .before .before .before
 
-small : (c : tie.After-walk) → tooLarge (length (at-entry c .args .buf .now)) ≡ false
-small c =
-    let at-if = c .before .before .before .before .before .before .before .before .before .before .before .before .before .before .before in
-    met (at-if .before .too-large .ensures) (at-if .if1 .left)
+abbrev at-else2 : tie.After-clear2 → tie.Else2
+at-else2 c = at-clear c .before .before
 
-enough : (c : tie.After-walk) → at-entry c .args .header .methods .size ≤ length (at-entry c .args .starts .now)
-enough c =
-    let at-if = c .before .before .before .before .before .before .before .before .before .before .before in
-    omega (arith, at-if .if2 .left, at-if .before .before .count .ensures)
+abbrev at-else1 : tie.After-clear2 → tie.Else1
+at-else1 c = at-else2 c .before .before .before .before
+
+abbrev at-entry : tie.After-clear2 → tie.Start
+at-entry c =
+    let at-size = at-else1 c .before in
+    at-size .before .before .before .before
+
+small : (c : tie.After-clear2) → tooLarge (length (at-entry c .args .buf .now)) ≡ false
+small c = met (at-else1 c .before .too-large .ensures) (at-else1 c .if1 .left)
+
+enough : (c : tie.After-clear2) → at-entry c .args .header .methods .size ≤ length (at-entry c .args .starts .now)
+enough c = omega (arith, at-else2 c .if2 .left, at-else2 c .before .before .count .ensures)
 
 too-large-requires : tie.Need-too-large-requires
 too-large-requires c κs = search needs
@@ -39,7 +46,7 @@ too-large-requires c κs = search needs
 returns : tie.Need-returns
 returns c =
     let at-size = c .before in
-    fit-refused _ _ _ _ _ (codes-large _ _ (lent (at-size .before .before .before .before)) (met (at-size .too-large .ensures) (c .if1 .taken)))
+    fit-refused _ _ _ _ (codes-large _ _ (lent (at-size .before .before .before .before)) (met (at-size .too-large .ensures) (c .if1 .taken)))
 
 count-requires : tie.Need-count-requires
 count-requires c κs = search needs
@@ -54,8 +61,10 @@ returns-2 : tie.Need-returns-2
 returns-2 c =
     let at-count = c .before .before in
     let at-if = at-count .before .before in
-    fit-refused _ _ _ _ _
-    (codes-short _ _ (lent (at-if .before .before .before .before .before)) (met (at-if .before .too-large .ensures) (at-if .if1 .left)) (omega (arith, c .if2 .taken, at-count .count .ensures)))
+    let at-size = at-if .before in
+    fit-refused _ _ _ _
+    (codes-short _ _ (lent (at-size .before .before .before .before)) (met (at-size .too-large .ensures) (at-if .if1 .left))
+    (omega (arith, c .if2 .taken, at-count .count .ensures)))
 
 clear-requires : tie.Need-clear-requires
 clear-requires c κs = search needs
@@ -65,8 +74,8 @@ clear-requires-2 c κs = search needs
 
 walk-requires : tie.Need-walk-requires
 walk-requires c κs =
-    let at-if = c .before .before .before .before .before .before .before .before .before .before .before .before .before .before in
-    ltb-false _ _ (met (at-if .before .too-large .ensures) (at-if .if1 .left))
+    let at-clear2 = c .before .before .before .before in
+    ltb-false _ _ (small at-clear2)
 
 enum-known-r : tie.Need-enum-known-r
 enum-known-r c = search needs
@@ -82,11 +91,14 @@ same-length-3 c = search needs
 
 returns-3 : tie.Need-returns-3
 returns-3 c =
-    let at-walk = c .before .before .before .before .before .before .before .before in
-    fit-refused _ _ _ _ _
-    (codes-over _ _ (lent (at-entry at-walk)) (small at-walk) (enough at-walk)
-    _ _ _ (seen-found _ _ _ (at-walk .walk .ensures) _ _ (c .before .before .count2 .given .1))
-    (third-over _ _ _ (c .before .before .before .before .before .before .before .triples2 .given) _ (at-walk .before .before .before .before .before .before .before .before .triples .given) (c .if3 .taken)))
+    let at-triples2 = c .before .before .before .before .before .before .before in
+    let at-walk = at-triples2 .before in
+    let at-clear2 = at-walk .before .before .before .before .before in
+    let at-triples = at-clear2 .before .before .before in
+    fit-refused _ _ _ _
+    (codes-over _ _ (lent (at-entry at-clear2)) (small at-clear2) (enough at-clear2)
+    _ (seen-found _ _ _ (at-walk .walk .ensures) _ _ (c .before .before .count2 .given .1))
+    (third-over _ (at-triples2 .triples2 .given) (at-triples .triples .given) (c .if3 .taken)))
 
 same-length-4 : tie.Need-same-length-4
 same-length-4 c = search needs
@@ -97,8 +109,10 @@ same-length-5 c = search needs
 returns-4 : tie.Need-returns-4
 returns-4 c =
     let at-walk = c .before .before .before .before .before .before .before in
-    fit-refused _ _ _ _ _
-    (codes-no _ _ (lent (at-entry at-walk)) (small at-walk) (enough at-walk) _ _ (seen-refused _ _ _ (at-walk .walk .ensures) _ (c .before .r .given .1)))
+    let at-clear2 = at-walk .before .before .before .before .before in
+    fit-refused _ _ _ _
+    (codes-no _ _ (lent (at-entry at-clear2)) (small at-clear2) (enough at-clear2)
+    _ (seen-refused _ _ _ (at-walk .walk .ensures) _ (c .before .r .given .1)))
 
 same-length-6 : tie.Need-same-length-6
 same-length-6 c = search needs
@@ -108,11 +122,14 @@ same-length-7 c = search needs
 
 returns-5 : tie.Need-returns-5
 returns-5 c =
-    let at-walk = c .before .before .before .before .before .before .before .before in
-    fit-all _ _ (lent (at-entry at-walk)) (small at-walk) (enough at-walk)
-    _ _ _ (seen-found _ _ _ (at-walk .walk .ensures) _ _ (c .before .before .count2 .given .1))
-    (record { triples = at-walk .before .before .before .before .before .before .before .before .before .clear .ensures; starts = at-walk .before .before .before .before .before .clear2 .ensures })
-    (third-holds _ _ _ (c .before .before .before .before .before .before .before .triples2 .given) _ (at-walk .before .before .before .before .before .before .before .before .triples .given) (c .if3 .left))
+    let at-triples2 = c .before .before .before .before .before .before .before in
+    let at-walk = at-triples2 .before in
+    let at-clear2 = at-walk .before .before .before .before .before in
+    let at-triples = at-clear2 .before .before .before in
+    fit-all _ _ (lent (at-entry at-clear2)) (small at-clear2) (enough at-clear2)
+    _ (seen-found _ _ _ (at-walk .walk .ensures) _ _ (c .before .before .count2 .given .1))
+    (record { triples = at-clear at-clear2 .clear .ensures; starts = at-clear2 .clear2 .ensures })
+    (third-holds _ (at-triples2 .triples2 .given) (at-triples .triples .given) (c .if3 .left))
 
 pub walk-fitting-spec : {M : Type 1} → statement M
 walk-fitting-spec =

@@ -1,12 +1,10 @@
 -- The hits stored and those still to be found are all, at every turn.
 -- Assumes nothing.
 use Prim.Native.Nat.{ℕ, _-_, _≤_, min}
-use mathlib.Core.Path.{_≡_, refl, subst, ap, _∙_}
-use mathlib.Core.List.{List}
+use mathlib.Core.Path.{_≡_, subst}
 use lib.ListN.{length}
 use Rattle.kinds.specs.Kinds.{meant}
-use Rattle.code_item_scan.specs.declared.Found.{Found}
-use Rattle.code_item_scan.specs.Scan.{Hit, isIn, sought, hitsBy, hitsOf}
+use Rattle.code_item_scan.specs.Scan.{isIn, sought, hitsBy, hitsOf}
 use Rattle.code_item_scan.specs.Next.{FirstHit, Finds}
 use Rattle.code_item_scan.specs.Answers.{hitWords}
 use Rattle.code_item_scan.proofs.Whole.{Going, going-start, going-on, going-end}
@@ -26,10 +24,9 @@ abbrev μ-loop : tie.MeasureT-loop
 
 -- what the next hit tells of the words that are wanted
 found : (c : tie.After-next-hit Inv-loop μ-loop)
-    → Finds (c .before .before .before .before .before .before .before .before .args .file .now)
-    (sought (meant (c .before .before .before .before .before .before .before .before .args .kind))
-    (λ x. isIn x (c .before .before .before .before .before .before .before .before .args .wanted .now))
-    (c .before .loop .at) (c .before .before .before .before .before .before .before .before .args .end)) (c .next-hit .result)
+    → let start = c .before .before .before .before .before .before .before .before in
+    let a = start .args in
+    Finds (a .file .now) (sought (meant (a .kind)) (λ x. isIn x (a .wanted .now)) (c .before .loop .at) (a .end)) (c .next-hit .result)
 found c =
     let start = c .before .before .before .before .before .before .before .before in
     let a = start .args in
@@ -39,10 +36,9 @@ found c =
     (c .next-hit .ensures _ (start .pre .1))
 
 hit : (c : tie.After-off Inv-loop μ-loop)
-    → FirstHit (c .before .before .before .before .before .before .before .before .before .before .args .file .now)
-    (sought (meant (c .before .before .before .before .before .before .before .before .before .before .args .kind))
-    (λ x. isIn x (c .before .before .before .before .before .before .before .before .before .before .args .wanted .now))
-    (c .before .before .before .loop .at) (c .before .before .before .before .before .before .before .before .before .before .args .end))
+    → let start = c .before .before .before .before .before .before .before .before .before .before in
+    let a = start .args in
+    FirstHit (a .file .now) (sought (meant (a .kind)) (λ x. isIn x (a .wanted .now)) (c .before .before .before .loop .at) (a .end))
     (c .off .given .0 .0) (c .off .given .0 .1 .0) (c .off .given .0 .1 .1 .0)
 hit c = found (c .before .before) .hit _ _ _ (c .off .given .1)
 

@@ -21,7 +21,8 @@ slice-aggregate-collect-2 c = search needs
 collect-requires : tie.Need-collect-requires
 collect-requires c κs =
     let filled = c .before .before .before .before .before in
-    (filled .before .before .before .before .before .before .pre, wanted-tells _ _ _ _ (filled .wanted-of .ensures))
+    let start = filled .before .before .before .before .before .before in
+    (start .pre, wanted-tells _ _ _ _ (filled .wanted-of .ensures))
 
 same-length : tie.Need-same-length
 same-length c = search needs

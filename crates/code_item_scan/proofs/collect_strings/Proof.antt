@@ -35,8 +35,9 @@ slice-aggregate-collect-2 c = search needs
 collect-requires : tie.Need-collect-requires
 collect-requires c κs =
     let told = c .before .before .before .before in
-    let filled = told .before .before in (
-      filled .before .before .before .before .before .before .pre,
+    let filled = told .before .before in
+    let start = filled .before .before .before .before .before .before in (
+      start .pre,
       wanted-tells _ _ _ _
           (subst (WantedOf _ _) (told .if1 .left) (filled .wanted-of .ensures)),
     )

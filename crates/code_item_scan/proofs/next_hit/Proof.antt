@@ -11,7 +11,8 @@ use Rattle.code_item_scan.proofs.next_hit.Statement.{statement}
 use Rattle.code_item_scan.proofs.next_hit.Tie as tie
 
 -- the region's end, cut at the file's
-cut : (c : tie.Joined1) → c .if1 .to ≡ min (c .before .before .before .before .before .args .end) (length (c .before .before .before .before .before .args .file .now))
+cut : (c : tie.Joined1)
+    → let start = c .before .before .before .before .before in c .if1 .to ≡ min (start .args .end) (length (start .args .file .now))
 cut c = ⊎-elim (λ w. omega (arith, w .0 .taken, w .1)) (λ w. omega (arith, w .0 .left, w .1)) (c .if1 .came)
 
 returns : tie.Need-returns

@@ -59,7 +59,7 @@ returns-2 c =
     let cleared = admitted .before .before .before .before .before in
     let a = cleared .before .before .before .before .before .before .before .args in
     let k = told .a2 .given in
-    gives-settled _ _ _ _ _
+    gives-settled
     (admitted-scan (a .file .now) (asked (a .kind) (a .wanted .now) (a .start) (a .end)) (k .0 .0) (k .1) _ (admitted .admit .ensures))
     (cleared .clear-both .ensures) (collected .collect-any .ensures) (settled .settle .ensures)
 

@@ -1,6 +1,5 @@
 -- `add_share` meets its contract: a single method makes a share of two, and a share one that goes on from it.
 -- Assumes nothing.
-use Prim.Native.Nat.{_-_}
 use native.Mathlib.Omega.{arith}
 use Rattle.code_table.proofs.Slots.{joined-single, joined-share}
 use borrow.Author.Needs.{needs}
@@ -33,20 +32,25 @@ same-length c = search needs
 
 returns : tie.Need-returns
 returns c =
-    let a = c .before .before .before .before .before .before .args in
-    rw (joined-single (a .v) (a .method) (a .shares .now) (omega arith) (c .before .before .before .before .if1 .taken)) (c .before .before .put-share .ensures)
+    let at-put = c .before .before in
+    let at-if1 = at-put .before .before in
+    let a = at-if1 .before .before .args in
+    rw (joined-single (a .v) (a .method) (a .shares .now) (omega arith) (at-if1 .if1 .taken)) (at-put .put-share .ensures)
 
 same-length-2 : tie.Need-same-length-2
 same-length-2 c = search needs
 
 returns-2 : tie.Need-returns-2
 returns-2 c =
-    let a = c .before .before .before .before .before .before .before .before .args in
+    let at-put = c .before .before in
+    let at-first = at-put .before .before in
+    let at-if1 = at-first .before .before in
+    let a = at-if1 .before .before .args in
     rw (
-      joined-share (a .v) (a .method) (a .shares .now) (c .before .before .before .before .before .before .if1 .left),
-      ← c .before .before .before .before .word-at .ensures,
+      joined-share (a .v) (a .method) (a .shares .now) (at-if1 .if1 .left),
+      ← at-first .word-at .ensures,
     )
-    (c .before .before .put-share2 .ensures)
+    (at-put .put-share2 .ensures)
 
 pub add-share-spec : {M : Type 1} → statement M
 add-share-spec =

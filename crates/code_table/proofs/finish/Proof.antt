@@ -4,11 +4,10 @@ use mathlib.Core.Path.{ap, _∙_}
 use mathlib.Core.List.{List}
 use Prim.Native.Nat.{ℕ, _≤_}
 use native.Mathlib.Omega.{arith}
-use lib.ListN.{length}
 use Rattle.words.specs.Padded.{zeros}
 use Rattle.dalvik.specs.CodeItem.{Code}
 use Rattle.code_table.specs.Answer.{tableWords}
-use Rattle.code_table.specs.Steps.{Triples, slotWords, HoldsAll}
+use Rattle.code_table.specs.Steps.{mostBuckets, Triples, slotWords, HoldsAll}
 use Rattle.code_table.proofs.Build.{top-small, base-below, whole, short, tabled-filled, tabled-short}
 use borrow.Author.Needs.{needs}
 use Rattle.code_table.proofs.finish.Statement.{statement}
@@ -24,19 +23,19 @@ known : (c : tie.After-known-told) →
     (slotWords (at-table .slot-table .last .1 .1 .0) (at-table .slot-table .last .1 .1 .1 .0))
 known c cs T =
     let p = c .before .before .before .before .before .before .before .slot-table in
-    tabled-filled cs (p .result) _ (slotWords (p .last .1 .1 .0) (p .last .1 .1 .1 .0)) (p .ensures cs T) _ _ _ (c .before .base .given .1)
+    tabled-filled cs (p .result) _ (slotWords (p .last .1 .1 .0) (p .last .1 .1 .1 .0)) (p .ensures cs T) (c .before .base .given .1)
 
 -- its buckets
 record Buckets (base top : ℕ) : Type 0 where
-  small : top ≤ 1048576
+  small : top ≤ mostBuckets
   rises : base ≤ top
 
 buckets : (c : tie.After-known-told) → Buckets (c .before .base .given .0 .0) (c .before .base .given .0 .1 .0)
 buckets c =
     let C = c .before .before .before .before .before .before .before .before .before .before .before .before .before .before .before .pre .coded in
     let A = known c (C .codes) (C .triples) in
-    let t = top-small _ _ (C .codes) (C .triples) in
-    let b = base-below _ _ (C .codes) (C .triples) in
+    let t = top-small (C .triples) in
+    let b = base-below (C .triples) in
     record { small = omega (arith, A .top); rises = omega (arith, A .base, A .top) }
 
 slot-table-requires : tie.Need-slot-table-requires
@@ -88,11 +87,9 @@ returns c = λ m e cs T s.
     let at-told = c .before in
     let at-table = at-told .before .before .before .before .before .before .before in
     let a = at-table .before .before .before .before .before .before .before .before .args in
-    let v = at-told .before .base .given .0 in
-    let p = at-table .slot-table in
     let A = known at-told cs T in
-    whole (a .len) (a .n) cs (tableWords (a .starts .now) (a .triples .now) (a .slots .now) (a .shares .now)) T m e (v .0) (v .1 .0) (v .1 .1 .0) _
-    (slotWords (p .last .1 .1 .0) (p .last .1 .1 .1 .0)) A (c .region-end .ensures cs (A .top)) s
+    whole (a .len) (tableWords (a .starts .now) (a .triples .now) (a .slots .now) (a .shares .now)) T m e A
+    (c .region-end .ensures cs (A .top)) s
 
 same-length-4 : tie.Need-same-length-4
 same-length-4 c = search needs
@@ -116,8 +113,10 @@ returns-2 c = λ m e cs T s.
     let at-table = at-short .before .before .before .before .before .before in
     let a = at-table .before .before .before .before .before .before .before .before .args in
     let p = at-table .slot-table in
-    let d = tabled-short cs (p .result) (slotWords (a .slots .now) (a .shares .now)) (slotWords (p .last .1 .1 .0) (p .last .1 .1 .1 .0)) (p .ensures cs T) (at-short .enum-told .given .1) in
-    short (a .len) (a .n) cs (tableWords (a .starts .now) (a .triples .now) (a .slots .now) (a .shares .now)) T m e _ d
+    let before = slotWords (a .slots .now) (a .shares .now) in
+    let after = slotWords (p .last .1 .1 .0) (p .last .1 .1 .1 .0) in
+    let d = tabled-short cs (p .result) before after (p .ensures cs T) (at-short .enum-told .given .1) in
+    short (a .len) (tableWords (a .starts .now) (a .triples .now) (a .slots .now) (a .shares .now)) T m e d
     (record {
       starts = first .clear .ensures;
       triples = second .clear2 .ensures;

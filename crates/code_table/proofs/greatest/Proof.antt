@@ -40,7 +40,7 @@ add-greater-2 c =
     let i = c .before .before .loop .i in
     let h = c .before .loop-test .taken in
     let s = C .triples .sound i h .inside in
-    omega (arith, last-word _ _ (C .codes) (C .triples) i h)
+    omega (arith, last-word (C .triples) i h)
 
 greater-requires : tie.Need-greater-requires Inv-loop μ-loop
 greater-requires c κs = search needs
@@ -53,11 +53,10 @@ loop-less c = search needs
 
 loop-again : tie.Need-loop-again Inv-loop μ-loop
 loop-again c = λ cs T.
-    let a = c .before .before .before .before .before .args in
     let l = c .before .before .before .loop in
     let h = c .before .before .loop-test .taken in
     let k : l .i < length cs = omega (arith, T .count) in
-    ap (λ (x : ℕ). max x (topOf (drop (l .i + 1) cs))) (c .greater .ensures ∙ ap (λ (x : ℕ). max (l .r) (x + 1)) (last-word (a .triples .now) (a .n) cs T (l .i) h))
+    ap (λ (x : ℕ). max x (topOf (drop (l .i + 1) cs))) (c .greater .ensures ∙ ap (λ (x : ℕ). max (l .r) (x + 1)) (last-word T (l .i) h))
     ∙ top-step (l .r) cs (l .i) k
     ∙ l .inv cs T
 

@@ -23,7 +23,7 @@ word-at-requires : tie.Need-word-at-requires Inv-loop μ-loop
 word-at-requires c κs = search needs
 
 loop-holds : tie.Need-loop-holds Inv-loop μ-loop
-loop-holds c = λ cs T. ap (λ (x : ℕ). lowest x (drop 1 cs)) (c .word-at .ensures) ∙ lowest-seed-word (c .before .before .args .triples .now) (c .before .before .args .n) cs T
+loop-holds c = λ cs T. ap (λ (x : ℕ). lowest x (drop 1 cs)) (c .word-at .ensures) ∙ lowest-seed-word T
 
 mul-lesser : tie.Need-mul-lesser Inv-loop μ-loop
 mul-lesser c = search needs
@@ -45,11 +45,10 @@ loop-less c = search needs
 
 loop-again : tie.Need-loop-again Inv-loop μ-loop
 loop-again c = λ cs T.
-    let a = c .before .before .before .before .before .before .args in
     let l = c .before .before .before .loop in
     let h = c .before .before .loop-test .taken in
     let k : l .i < length cs = omega (arith, T .count) in
-    ap (λ (x : ℕ). lowest x (drop (l .i + 1) cs)) (c .lesser .ensures ∙ ap (min (l .r)) (first-word (a .triples .now) (a .n) cs T (l .i) h))
+    ap (λ (x : ℕ). lowest x (drop (l .i + 1) cs)) (c .lesser .ensures ∙ ap (min (l .r)) (first-word T (l .i) h))
     ∙ lowest-step (l .r) cs (l .i) k
     ∙ l .inv cs T
 

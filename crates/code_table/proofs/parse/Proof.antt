@@ -15,9 +15,19 @@ use borrow.Author.Needs.{needs}
 use Rattle.code_table.proofs.parse.Statement.{statement}
 use Rattle.code_table.proofs.parse.Tie as tie
 
--- ---- where `codes` was called
+-- ---- before `codes` was called: the shares cleared, the slots cleared, and the entry
+abbrev at-clear2 : tie.After-codes → tie.After-clear2
+at-clear2 c =
+    let at-shares = c .before .before .before .before in
+    at-shares .before
+
+abbrev at-clear : tie.After-codes → tie.After-clear
+at-clear c = at-clear2 c .before .before .before .before
+
 abbrev at-entry : tie.After-codes → tie.Start
-at-entry c = c .before .before .before .before .before .before .before .before .before .before .before .before .before .before .before .before
+at-entry c =
+    let at-slices = at-clear c .before .before .before in
+    at-slices .before .before .before .before
 
 -- the lent words as they came
 abbrev lent : tie.After-codes → TableWords
@@ -29,12 +39,12 @@ lent c =
 abbrev left : tie.After-codes → TableWords
 left c =
     let p = c .codes in
-    tableWords (p .last .1 .1 .1 .0) (p .last .1 .1 .0) (c .before .before .before .before .before .before .before .before .before .clear .last .0) (c .before .before .before .before .before .clear2 .last .0)
+    tableWords (p .last .1 .1 .1 .0) (p .last .1 .1 .0) (at-clear c .clear .last .0) (at-clear2 c .clear2 .last .0)
 
 as-long : (c : tie.After-codes) → roomOf (left c) ≡ roomOf (lent c)
 as-long c =
     let p = c .codes in
-    rw (p .kept .1 .1 .1 .0, p .kept .1 .1 .0, c .before .before .before .before .before .before .before .before .before .clear .kept .0, c .before .before .before .before .before .clear2 .kept .0)
+    rw (p .kept .1 .1 .1 .0, p .kept .1 .1 .0, at-clear c .clear .kept .0, at-clear2 c .clear2 .kept .0)
 
 -- what it says, for each answer
 told : (c : tie.After-codes) (x : Answer) → c .codes .result ≡ x
@@ -42,7 +52,8 @@ told : (c : tie.After-codes) (x : Answer) → c .codes .result ≡ x
     GivesCodes (a .header .methods .size) (codesFor (a .file .now) (a .header) (filled (lent c))) x (filled (lent c)) (filled (left c))
 told c x e =
     let a = at-entry c .args in
-    subst (λ (y : Answer). GivesCodes (a .header .methods .size) (codesFor (a .file .now) (a .header) (filled (lent c))) y (filled (lent c)) (filled (left c)))
+    subst (λ (y : Answer).
+    GivesCodes (a .header .methods .size) (codesFor (a .file .now) (a .header) (filled (lent c))) y (filled (lent c)) (filled (left c)))
     e (c .codes .ensures)
 
 got : (c : tie.After-codes) (n : ℕ) → c .codes .result ≡ Done n
@@ -72,11 +83,11 @@ finish-requires : tie.Need-finish-requires
 finish-requires c κs =
     let at-found = c .before .before .before .before in
     let at-codes = at-found .before .before .before .before .before .before .before in
-    let x = at-codes .before .before .before .before .before .before .before .before .before .clear in
-    let w = at-codes .before .before .before .before .before .clear2 in
+    let x = at-clear at-codes .clear in
+    let w = at-clear2 at-codes .clear2 in
     let K = got at-codes _ (at-found .before .n .given .1) in
     record {
-      coded = record { codes = K .codes; triples = taken-triples _ _ _ (lent at-codes) (left at-codes) K (as-long at-codes) };
+      coded = record { codes = K .codes; triples = taken-triples (lent at-codes) (left at-codes) K (as-long at-codes) };
       slots = x .ensures ∙ ap zeros (sym (x .kept .0));
       shares = w .ensures ∙ ap zeros (sym (w .kept .0));
     }
@@ -99,7 +110,7 @@ returns c =
     let r = c .before .r .given .0 .0 in
     let K = not-got at-codes r (c .before .r .given .1) in
     gives-none _ r (lent at-codes) (left at-codes) (lost _ _ (roomOf (lent at-codes)) r (K .walk))
-    (record { starts = K .starts; triples = K .triples; slots = at-codes .before .before .before .before .before .before .before .before .before .clear .ensures; shares = at-codes .before .before .before .before .before .clear2 .ensures })
+    (record { starts = K .starts; triples = K .triples; slots = at-clear at-codes .clear .ensures; shares = at-clear2 at-codes .clear2 .ensures })
 
 same-length-5 : tie.Need-same-length-5
 same-length-5 c = search needs
@@ -119,7 +130,7 @@ returns-2 c =
     let at-found = at-finish .before .before .before .before .before in
     let at-codes = at-found .before .before .before .before .before .before .before in
     let q = at-finish .finish in
-    gives-gained _ _ _ (lent at-codes) (left at-codes) (got at-codes _ (at-found .before .n .given .1)) (as-long at-codes)
+    gives-gained (lent at-codes) (left at-codes) (got at-codes _ (at-found .before .n .given .1)) (as-long at-codes)
     (q .result) (tableWords (q .last .1 .1 .0) (q .last .1 .1 .1 .0) (q .last .1 .1 .1 .1 .0) (q .last .1 .1 .1 .1 .1 .0)) (q .ensures)
 
 pub parse-spec : {M : Type 1} → statement M

@@ -3,6 +3,7 @@
 use Prim.Native.Nat.{_+_, _-_, _/_}
 use native.Mathlib.Omega.{arith}
 use Rattle.words.proofs.Padded.{lent-fill}
+use Rattle.code_table.specs.Slots.{shared}
 use Rattle.code_table.proofs.Slots.{held-free, held-share, held-over}
 use borrow.Author.Needs.{needs}
 use Rattle.code_table.proofs.place.Statement.{statement}
@@ -55,8 +56,10 @@ returns c = λ N W cd t w words inside H.
     let at-entry = c .before .before .before .before .before .before .before .before in
     let a = at-entry .args in
     let p = at-entry .pre in
-    let v = lent-fill (a .slots .now) (a .first - a .base) (a .last - a .base + 1 - (a .first - a .base)) (a .method + 1) (c .before .before .fill .last .0) (omega arith) (c .before .before .fill .ensures) in
-    held-free H words (p .above) (p .rises) inside _ v (c .before .before .before .before .if1 .taken)
+    let f = c .before .before .fill in
+    let v = lent-fill (a .slots .now) (a .first - a .base) (a .last - a .base + 1 - (a .first - a .base)) (a .method + 1) (f .last .0)
+    (omega arith) (f .ensures) in
+    held-free H words (p .above) (p .rises) inside v (c .before .before .before .before .if1 .taken)
 
 share-room-requires : tie.Need-share-room-requires
 share-room-requires c κs = search needs
@@ -110,9 +113,11 @@ returns-3 c = λ N W cd t w words inside H.
     let at-entry = at-room .before .before .before .before .before in
     let a = at-entry .args in
     let p = at-entry .pre in
-    let v = lent-fill (a .slots .now) (a .first - a .base) (a .last - a .base + 1 - (a .first - a .base)) (2147483648 + a .used / 3) (c .before .before .fill2 .last .0) (omega arith) (c .before .before .fill2 .ensures) in
-    held-share H words (p .above) (p .rises) inside (at-room .before .if1 .left)
-    _ _ v (at-share .add-share .ensures) (omega (arith, at-room .share-room .ensures, at-share .before .before .if2 .left, w))
+    let f = c .before .before .fill2 in
+    let v = lent-fill (a .slots .now) (a .first - a .base) (a .last - a .base + 1 - (a .first - a .base)) (shared + a .used / 3) (f .last .0)
+    (omega arith) (f .ensures) in
+    held-share H words (p .above) (p .rises) inside (at-room .before .if1 .left) v
+    (at-share .add-share .ensures) (omega (arith, at-room .share-room .ensures, at-share .before .before .if2 .left, w))
 
 pub place-spec : {M : Type 1} → statement M
 place-spec =

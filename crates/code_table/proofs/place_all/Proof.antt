@@ -25,7 +25,7 @@ abbrev μ-loop : tie.MeasureT-loop
 loop-holds : tie.Need-loop-holds Inv-loop μ-loop
 loop-holds c =
     let p = c .before .before .before .pre in
-    (omega arith, refl, refl, λ cs T b e. held-none _ _ cs _ _ (p .cleared .slots) (p .cleared .shares) (rw b at e))
+    (omega arith, refl, refl, λ cs T b e. held-none _ _ cs (p .cleared .slots) (p .cleared .shares) (rw b at e))
 
 mul-at : tie.Need-mul-at Inv-loop μ-loop
 mul-at c = search needs
@@ -56,11 +56,12 @@ shared-slice-read-place-3 c = search needs
 
 place-requires : tie.Need-place-requires Inv-loop μ-loop
 place-requires c κs =
-    let p = c .before .before .before .before .before .before .before .before .before .before .pre in
-    let l = c .before .before .before .before .before .before .loop in
+    let at-test = c .before .before .before .before .before in
+    let l = at-test .before .loop in
+    let p = at-test .before .before .before .before .before .pre in
     let C = p .cleared .coded in
     let H = l .inv .3 (C .codes) (C .triples) (p .least) (p .enough) in
-    placeable (C .triples) (l .i) (c .before .before .before .before .before .loop-test .taken) (p .least) _ _ _ (omega (arith, p .enough)) (omega (arith, H .fits))
+    placeable (C .triples) (l .i) (at-test .loop-test .taken) (p .least) _ _ _ (omega (arith, p .enough)) (omega (arith, H .fits))
 
 enum-known-k : tie.Need-enum-known-k Inv-loop μ-loop
 enum-known-k c = search needs
@@ -82,8 +83,9 @@ returns c = λ cs T b e.
     let l = at-test .before .loop in
     let p = at-place .place in
     let now-held = slotWords (p .last .0) (p .last .1 .0) in
-    let A = turn T (l .i) (at-test .loop-test .taken) b (p .result) (slotWords (l .slots) (l .shares)) now-held (l .inv .2) (l .inv .3 cs T b e) (p .ensures) in
-    table-over cs (l .i + 1) _ (after-full (length (a .slots .now)) (length (a .shares .now)) (upTo cs (l .i + 1)) (p .result) now-held (c .enum-told .given .1) A)
+    let A = turn T (l .i) (at-test .loop-test .taken) b (p .result) now-held (l .inv .2) (l .inv .3 cs T b e) (p .ensures) in
+    table-over cs (l .i + 1) _
+    (after-full (length (a .slots .now)) (length (a .shares .now)) (upTo cs (l .i + 1)) (p .result) now-held (c .enum-told .given .1) A)
 
 add-i : tie.Need-add-i Inv-loop μ-loop
 add-i c = search needs
@@ -102,7 +104,8 @@ loop-again c =
       p .kept .1 .0 ∙ l .inv .2,
       λ cs T b e.
           after-done _ (c .before .k .given .1)
-          (turn T (l .i) (at-test .loop-test .taken) b (p .result) (slotWords (l .slots) (l .shares)) (slotWords (p .last .0) (p .last .1 .0)) (l .inv .2) (l .inv .3 cs T b e) (p .ensures)),
+          (turn T (l .i) (at-test .loop-test .taken) b (p .result) (slotWords (p .last .0) (p .last .1 .0)) (l .inv .2) (l .inv .3 cs T b e)
+          (p .ensures)),
     )
 
 same-length-3 : tie.Need-same-length-3 Inv-loop μ-loop
@@ -116,7 +119,8 @@ returns-2 c = λ cs T b e.
     let a = c .before .before .before .before .before .args in
     let l = c .before .loop in
     let k : length cs ≤ l .i = omega (arith, T .count) in
-    subst (λ (t : Table). Holds (length (a .slots .now)) (length (a .shares .now)) t (slotWords (l .slots) (l .shares)) (l .used)) (table-all cs (l .i) k) (l .inv .3 cs T b e)
+    subst (λ (t : Table). Holds (length (a .slots .now)) (length (a .shares .now)) t (slotWords (l .slots) (l .shares)) (l .used))
+    (table-all cs (l .i) k) (l .inv .3 cs T b e)
 
 pub place-all-spec : {M : Type 1} → statement M
 place-all-spec =

@@ -27,7 +27,10 @@ minus-requires : tie.Need-minus-requires
 minus-requires c κs = search needs
 
 returns : tie.Need-returns
-returns c = λ cs T. inl (omega (arith, c .before .minus .ensures, c .before .before .greatest .ensures cs T, c .before .before .before .least .ensures cs T))
+returns c = λ cs T.
+    let at-minus = c .before in
+    let at-greatest = at-minus .before in
+    inl (omega (arith, at-minus .minus .ensures, at-greatest .greatest .ensures cs T, at-greatest .before .least .ensures cs T))
 
 place-all-requires : tie.Need-place-all-requires
 place-all-requires c κs =
@@ -62,7 +65,8 @@ returns-2 c = λ cs T.
     let a = at-least .before .before .before .before .args in
     let p = at-placed .place-all in
     let b = at-least .least .ensures cs T in
-    inr (after-full (length (a .slots .now)) (length (a .shares .now)) (tableOf cs) (p .result) (slotWords (p .last .1 .1 .1 .0) (p .last .1 .1 .1 .1 .0)) (c .enum-told .given .1)
+    let after = slotWords (p .last .1 .1 .1 .0) (p .last .1 .1 .1 .1 .0) in
+    inr (after-full (length (a .slots .now)) (length (a .shares .now)) (tableOf cs) (p .result) after (c .enum-told .given .1)
     (p .ensures cs T b (omega (arith, at-minus .minus .ensures, at-minus .before .greatest .ensures cs T))))
 
 same-length-3 : tie.Need-same-length-3

@@ -55,15 +55,17 @@ returns c =
 
 same-length-9 : tie.Need-same-length-9
 same-length-9 c =
-    let searched = c .before .before .before .before .before .before .before .before .before .before .before .before .before .before .before .before in
-    let built = searched .before .before .before .before .before .before .before .before .before .before .before .before .before in
-    omega (arith, c .before .before .before .before .before .before .before .before .before .before .before .before .before .before .before .starts2 .given, built .before .before .before .before .before .before .starts .given)
+    let searched = c .before .before .before .before .before .before .before .before .before .before .before .before .before .before .before in
+    let built = searched .before .before .before .before .before .before .before .before .before .before .before .before .before .before in
+    let lent = built .before .before .before .before .before .before .starts .given in
+    omega (arith, searched .starts2 .given, lent)
 
 same-length-10 : tie.Need-same-length-10
 same-length-10 c =
-    let searched = c .before .before .before .before .before .before .before .before .before .before .before .before .before .before .before .before in
-    let built = searched .before .before .before .before .before .before .before .before .before .before .before .before .before in
-    omega (arith, c .before .before .before .before .before .before .before .before .before .before .before .before .before .triples2 .given, built .before .before .before .before .triples .given)
+    let searched = c .before .before .before .before .before .before .before .before .before .before .before .before .before in
+    let read = searched .before .before .before .before .before .before .before .before .before .before in
+    let lent = read .before .before .before .before .before .before .before .before .before .before .triples .given in
+    omega (arith, searched .triples2 .given, lent)
 
 same-length-11 : tie.Need-same-length-11
 same-length-11 c = search needs
@@ -85,14 +87,16 @@ same-length-16 c = search needs
 
 returns-2 : tie.Need-returns-2
 returns-2 c =
-    let searched = c .before .before .before .before .before .before .before .before .before .before .before .before .before .before .before .before in
+    let at-starts = c .before .before .before .before .before .before .before .before .before .before .before .before .before .before .before in
+    let searched = at-starts .before in
     let read = searched .before .before .before .before .before .before .before .before .before .before in
     let kept = read .before .before .before in
-    let built = kept .before .before .before .before .before .before .before in
+    let lent = kept .before .before .before .before .before .before in
+    let built = lent .before in
     both _ _ _ _ _ _ _
     (find-built _ _ _ _ _ _ _ _ _ _ (read .region .given .1) (built .parse .ensures) _ _
     (record {
-      starts = omega (arith, kept .before .before .before .before .before .before .starts .given);
+      starts = omega (arith, lent .starts .given);
       triples = omega (arith, kept .before .before .before .before .triples .given);
       slots = omega (arith, kept .before .before .slots .given);
       shares = omega (arith, kept .shares .given);

@@ -2,20 +2,20 @@
 use Prim.Native.Nat.{_-_}
 use mathlib.Core.Path.{refl}
 use mathlib.Core.Logic.{⊎-elim}
-use Rattle.index_set.proofs.Gathering.{Through, all-start, all-next, all-full, all-done, no-bits}
+use Rattle.index_set.proofs.Gathering.{front, Through, all-start, all-next, all-full, all-done, no-bits}
 use borrow.Author.Needs.{needs}
 use native.Mathlib.Omega.{arith}
 use Rattle.index_set.proofs.gather.Statement.{statement}
 use Rattle.index_set.proofs.gather.Tie as tie
 
 abbrev Inv-loop : tie.InvT-loop
-Inv-loop bits out₀ n end held₀ i₀ out held i = Through bits out₀ n end out held i
+Inv-loop bits out₀ n end held₀ i₀ out held i = Through bits (front out₀ n) end (front out held) i
 
 abbrev μ-loop : tie.MeasureT-loop
 μ-loop bits out₀ n end held₀ i₀ out held i = end - i
 
 loop-holds : tie.Need-loop-holds Inv-loop μ-loop
-loop-holds c = all-start _ _ _ _ (⊎-elim (λ w. omega arith) (λ w. omega arith) (c .if1 .came))
+loop-holds c = all-start _ _ _ (⊎-elim (λ w. omega arith) (λ w. omega arith) (c .if1 .came))
 
 mul-if2 : tie.Need-mul-if2 Inv-loop μ-loop
 mul-if2 c = search needs

@@ -1,6 +1,6 @@
 -- `index_set::gather_word` meets its contract: each turn takes the lowest bit left, which is that of x. Assumes nothing.
 use Prim.Native.Nat.{_+_, _-_, _*_}
-use Rattle.index_set.proofs.Gathering.{Midway, word-start, word-done, word-pass, word-joins, word-full, room}
+use Rattle.index_set.proofs.Gathering.{front, Midway, word-start, word-done, word-pass, word-joins, word-full, room}
 use mathlib.Core.Logic.{⊎-elim}
 use borrow.Author.Needs.{needs}
 use native.Mathlib.Omega.{arith}
@@ -8,7 +8,7 @@ use Rattle.index_set.proofs.gather_word.Statement.{statement}
 use Rattle.index_set.proofs.gather_word.Tie as tie
 
 abbrev Inv-loop : tie.InvT-loop
-Inv-loop bits i out₀ n w₀ x₀ held₀ out w x held = Midway bits i out₀ n out w x held
+Inv-loop bits i out₀ n w₀ x₀ held₀ out w x held = Midway bits i (front out₀ n) (front out held) w x
 
 abbrev μ-loop : tie.MeasureT-loop
 μ-loop bits i out₀ n w₀ x₀ held₀ out w x held = 64 * i + 64 - x
@@ -23,7 +23,7 @@ mul-x : tie.Need-mul-x Inv-loop μ-loop
 mul-x c = search needs
 
 loop-holds : tie.Need-loop-holds Inv-loop μ-loop
-loop-holds c = word-start _ _ _ _ (omega (arith, c .shared-slice-known2 .given (c .before .before .before .args .i)))
+loop-holds c = word-start _ _ _ (omega (arith, c .shared-slice-known2 .given (c .before .before .before .args .i)))
 
 cast-insert : tie.Need-cast-insert Inv-loop μ-loop
 cast-insert c = omega (arith, room (c .before .before .before .loop .inv) (c .before .before .loop-test .taken))
@@ -45,7 +45,8 @@ returns c =
     let at-if1 = c .before .before .before .before .before .before in
     let at-loop-test = at-if1 .before in
     let at-loop = at-loop-test .before in
-    word-full (at-loop .loop .inv) (at-loop-test .loop-test .taken) (at-if1 .if1 .taken) (c .before .before .before .before .insert .ensures) (c .enum-told .given .1)
+    word-full (at-loop .loop .inv) (at-loop-test .loop-test .taken) (at-if1 .if1 .taken) (c .before .before .before .before .insert .ensures)
+    (c .enum-told .given .1)
 
 add-x : tie.Need-add-x Inv-loop μ-loop
 add-x c = search needs

@@ -87,7 +87,8 @@ returns-3 c =
       answer =
           gives-refused _ (a .answers .now) _ LentTooShort
           (locate-further (a .file .now) T (a .entries .now) (length (a .answers .now)) (length (a .further .now))
-          (met (c .before .before .before .before .too-large .ensures) (c .before .before .before .if1 .left)) (omega (arith, at-clear2 .clear2 .kept .0))
+          (met (c .before .before .before .before .too-large .ensures) (c .before .before .before .if1 .left))
+          (omega (arith, at-clear2 .clear2 .kept .0))
           (omega (arith, at-clear .clear .kept .0, c .before .before .count .ensures))) (at-clear2 .clear2 .ensures);
       further = at-clear .clear .ensures;
     }
@@ -177,7 +178,8 @@ returns-5 c =
     let none-yet = ap (take n) (unset .ensures) ∙ take-zeros n (length (a .further .now)) known ∙ ap zeros same in
     let whole : length (run .last .1 .1 .1 .1 .1 .1 .0 ++ drop n (unset .last .0)) ≡ length (a .further .now) =
     simp (length-append, length-drop) (omega (arith, run .kept, unset .kept .0, length-take n (unset .last .0))) in
-    let fault = locate-fault (a .file .now) T (a .entries .now) (length (a .answers .now)) (length (a .further .now)) fits room (omega arith) _ none-yet
+    let fault =
+    locate-fault (a .file .now) T (a .entries .now) (length (a .answers .now)) (length (a .further .now)) fits room (omega arith) _ none-yet
     (cleared .last .0) (rw (c .before .before .before .before .if4 .left) at (run .ensures)) in
     let all : length (run .last .1 .1 .1 .1 .1 .1 .1 .0) ≡ length (a .answers .now) = omega (arith, run .kept, cleared .kept .0) in
     record {

@@ -64,12 +64,14 @@ returns-3 c =
 
 returns-4 : tie.Need-returns-4
 returns-4 c =
-    let at-slot-at = c .before .before .before .before .before .before .before in
+    let at-first = c .before .before .before in
+    let at-first-of = at-first .before .before in
+    let at-slot-at = at-first-of .before .before in
     let start = at-slot-at .before .before .before .before .before .before in
     let a = start .args in
     let T = tables (a .base) (a .slots .now) (a .starts .now) (a .shares .now) in
     entry-unknown (a .buf .now) T (a .last .now) (a .off) _ (at-slot-at .slot-at .ensures) _ (omega arith)
-    (ap firstValue (sym (c .before .before .before .first .given .1)) ∙ c .before .before .before .before .before .first-of .ensures)
+    (ap firstValue (sym (at-first .first .given .1)) ∙ at-first-of .first-of .ensures)
     (met (c .before .has-start .ensures) (c .if2 .left))
 
 pub locate-one-spec : {M : Type 1} → statement M

@@ -2,7 +2,7 @@
 -- Assumes nothing.
 use mathlib.Core.List.{List, [], _∷_}
 use Prim.Native.Nat.{ℕ}
-use native.Mathlib.Omega.{arith}
+use borrow.Author.Needs.{needs}
 use Rattle.words.proofs.Arms.{ranged, keyed}
 use Rattle.kinds.specs.Width.{widthOf}
 use Rattle.dalvik.specs.Instructions.Kind.{strings}
@@ -23,7 +23,7 @@ returns-2 c = keyed (widthOf strings) _ (27 ∷ []) (c .before .args .op) tt (c 
 
 returns-3 : tie.Need-returns-3
 unfolding widthOf
-returns-3 c = ranged (widthOf strings) keys _ 0 256 (c .before .args .op) tt (omega arith) (omega arith) (c .match .rest)
+returns-3 c = ranged (widthOf strings) keys _ 0 256 tt (search needs) (c .match .rest)
 
 pub string-width-spec : {M : Type 1} → statement M
 string-width-spec = tie.close (tie.spec returns returns-2 returns-3)

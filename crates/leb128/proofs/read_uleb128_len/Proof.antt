@@ -35,7 +35,11 @@ loop-less : tie.Need-loop-less Inv-loop μ-loop
 loop-less c = search needs
 
 loop-again : tie.Need-loop-again Inv-loop μ-loop
-loop-again c = (omega arith, len-again _ _ _ _ _ (c .before .byte-at .ensures) (omega arith) (omega arith) (omega arith) (c .before .before .before .loop .inv .1))
+loop-again c = (
+  omega arith,
+  len-again _ _ _ _ _ (c .before .byte-at .ensures) (omega arith) (omega arith) (omega arith)
+      (c .before .before .before .loop .inv .1),
+)
 
 returns-2 : tie.Need-returns-2 Inv-loop μ-loop
 returns-2 c = len-off _ _ _ _ (omega arith) (c .before .loop .inv .1)

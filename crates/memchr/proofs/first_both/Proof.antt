@@ -42,7 +42,8 @@ loop-less : tie.Need-loop-less Inv-loop μ-loop
 loop-less c = search needs
 
 loop-again : tie.Need-loop-again Inv-loop μ-loop
-loop-again c = (omega arith, one-lane (c .before .before .before .loop-test .taken) (c .before .before .before .before .loop .inv .1) (c .nearer-both .ensures))
+loop-again c =
+    (omega arith, one-lane (c .before .before .before .loop-test .taken) (c .before .before .before .before .loop .inv .1) (c .nearer-both .ensures))
 
 cast-result : tie.Need-cast-result Inv-loop μ-loop
 cast-result c = search needs

@@ -48,7 +48,8 @@ loop-again c =
     let q = c .before .before .before in
     let inv = q .before .loop .inv in
     let lane = c .before .either .ensures in
-    let small : c .greater .result ≤ 64 = ⊎-elim (λ w. omega (arith, w .0, inv .1, c .greater .ensures)) (λ w. omega (arith, w .0, inv .1, c .greater .ensures)) (lane .cases) in
+    let small : c .greater .result ≤ 64 =
+    ⊎-elim (λ w. omega (arith, w .0, inv .1, c .greater .ensures)) (λ w. omega (arith, w .0, inv .1, c .greater .ensures)) (lane .cases) in
     (omega arith, small, one-lane (q .loop-test .taken) (inv .2) (lane-left (q .loop-test .taken) (inv .1) lane (c .greater .ensures)))
 
 returns : tie.Need-returns Inv-loop μ-loop

@@ -48,17 +48,18 @@ same-length-4 c = search needs
 
 returns : tie.Need-returns
 returns c =
-    let at-before′′ = c .before .before .before .before .before .before .before in
-    let at-by-clz = at-before′′ .before .before .before .before .before .before .before in
-    let at-before′ = at-by-clz .before .before .before .before .before in
-    let at-before = at-before′ .before .before .before .before .before .before .before in
-    let clz = at-before .before in
-    let name = at-before′ .before in
-    let told = at-before′′ .before in
-    let left = told .refuse .ensures in
+    let at-refuse = c .before .before .before .before .before .before .before .before in
+    let at-by-clz = at-refuse .before .before .before .before .before .before in
+    let name = at-by-clz .before .before .before .before .before .before in
+    let clz = name .before .before .before .before .before .before .before in
+    let left = at-refuse .refuse .ensures in
     rw (left .answer) (clz-refused _ _ _ (at-by-clz .by-clz .given .1) (by-key _ _ _ _ _ (key-first _ _ 8 Two) (clz .build .ensures))
-    (record { offs = left .clz-offs ∙ ap zeros (clz .build .kept .1 .1 .1 .1 .0); ids = left .clz-ids ∙ ap zeros (clz .build .kept .1 .1 .1 .1 .1 .0) })
-    (record { offs = left .name-offs ∙ ap zeros (name .build2 .kept .1 .1 .1 .1 .0); ids = left .name-ids ∙ ap zeros (name .build2 .kept .1 .1 .1 .1 .1 .0) }))
+    (record
+    { offs = left .clz-offs ∙ ap zeros (clz .build .kept .1 .1 .1 .1 .0); ids = left .clz-ids ∙ ap zeros (clz .build .kept .1 .1 .1 .1 .1 .0) })
+    (record {
+      offs = left .name-offs ∙ ap zeros (name .build2 .kept .1 .1 .1 .1 .0);
+      ids = left .name-ids ∙ ap zeros (name .build2 .kept .1 .1 .1 .1 .1 .0);
+    }))
 
 same-length-5 : tie.Need-same-length-5
 same-length-5 c = search needs
@@ -74,18 +75,20 @@ same-length-8 c = search needs
 
 returns-2 : tie.Need-returns-2
 returns-2 c =
-    let at-before′′ = c .before .before .before .before .before .before .before in
-    let at-by-name = at-before′′ .before .before .before .before .before .before .before in
+    let at-refuse = c .before .before .before .before .before .before .before .before in
+    let at-by-name = at-refuse .before .before .before .before .before .before in
     let at-by-clz2 = at-by-name .before .before .before in
-    let at-before′ = at-by-clz2 .before .before .before .before .before in
-    let at-before = at-before′ .before .before .before .before .before .before .before in
-    let clz = at-before .before in
-    let name = at-before′ .before in
-    let told = at-before′′ .before in
-    let left = told .refuse2 .ensures in
-    rw (left .answer) (name-refused _ _ _ _ (at-by-clz2 .by-clz2 .given .1) (at-by-name .by-name .given .1) (by-key _ _ _ _ _ (key-first _ _ 8 Two) (clz .build .ensures)) (by-key _ _ _ _ _ (key-at _ _ 8 4 Four) (name .build2 .ensures))
-    (record { offs = left .clz-offs ∙ ap zeros (clz .build .kept .1 .1 .1 .1 .0); ids = left .clz-ids ∙ ap zeros (clz .build .kept .1 .1 .1 .1 .1 .0) })
-    (record { offs = left .name-offs ∙ ap zeros (name .build2 .kept .1 .1 .1 .1 .0); ids = left .name-ids ∙ ap zeros (name .build2 .kept .1 .1 .1 .1 .1 .0) }))
+    let name = at-by-clz2 .before .before .before .before .before .before in
+    let clz = name .before .before .before .before .before .before .before in
+    let left = at-refuse .refuse2 .ensures in
+    rw (left .answer) (name-refused _ _ _ _ (at-by-clz2 .by-clz2 .given .1) (at-by-name .by-name .given .1)
+    (by-key _ _ _ _ _ (key-first _ _ 8 Two) (clz .build .ensures)) (by-key _ _ _ _ _ (key-at _ _ 8 4 Four) (name .build2 .ensures))
+    (record
+    { offs = left .clz-offs ∙ ap zeros (clz .build .kept .1 .1 .1 .1 .0); ids = left .clz-ids ∙ ap zeros (clz .build .kept .1 .1 .1 .1 .1 .0) })
+    (record {
+      offs = left .name-offs ∙ ap zeros (name .build2 .kept .1 .1 .1 .1 .0);
+      ids = left .name-ids ∙ ap zeros (name .build2 .kept .1 .1 .1 .1 .1 .0);
+    }))
 
 same-length-9 : tie.Need-same-length-9
 same-length-9 c = search needs
@@ -101,11 +104,11 @@ same-length-12 c = search needs
 
 returns-3 : tie.Need-returns-3
 returns-3 c =
-    let at-before′ = c .before .before .before .before .before .before .before .before .before in
-    let at-before = at-before′ .before .before .before .before .before .before .before in
-    let clz = at-before .before in
-    let name = at-before′ .before in
-    both-done _ _ _ _ (c .before .before .before .before .by-clz2 .given .1) (c .before .by-name2 .given .1) (by-key _ _ _ _ _ (key-first _ _ 8 Two) (clz .build .ensures)) (by-key _ _ _ _ _ (key-at _ _ 8 4 Four) (name .build2 .ensures))
+    let at-by-clz2 = c .before .before .before .before in
+    let name = at-by-clz2 .before .before .before .before .before .before in
+    let clz = name .before .before .before .before .before .before .before in
+    both-done _ _ _ _ (at-by-clz2 .by-clz2 .given .1) (c .before .by-name2 .given .1) (by-key _ _ _ _ _ (key-first _ _ 8 Two) (clz .build .ensures))
+    (by-key _ _ _ _ _ (key-at _ _ 8 4 Four) (name .build2 .ensures))
 
 pub build-map-spec : {M : Type 1} → statement M
 build-map-spec =

@@ -3,7 +3,7 @@
 use Rattle.method_search.proofs.Fitting.{from-start, recount, turn, no-room, none-from}
 use Rattle.method_search.specs.Steps.{sieve, Fitting}
 use Rattle.word_set.proofs.Collected.{Collected, collect-start, collect-end, held-length}
-use Rattle.word_set.specs.Found.{all, over}
+use Rattle.word_set.specs.Steps.{all, over}
 use lib.ListN.{length}
 use mathlib.Core.Path.{refl}
 use Prim.Native.Nat.{ℕ, _-_, _≤_}
@@ -13,7 +13,9 @@ use Rattle.method_search.proofs.collect.Statement.{statement}
 use Rattle.method_search.proofs.collect.Tie as tie
 
 abbrev Inv-loop : tie.InvT-loop
-Inv-loop file by-class types by-name names out₀ off count i₀ n₀ out i n = Collected (Fitting (sieve file off by-class types by-name names) count) (λ (x : ℕ). (i ≤ x) × Fitting (sieve file off by-class types by-name names) count x) (length out₀) n out × (i ≤ count)
+Inv-loop file by-class types by-name names out₀ off count i₀ n₀ out i n =
+    Collected (Fitting (sieve file off by-class types by-name names) count)
+    (λ (x : ℕ). (i ≤ x) × Fitting (sieve file off by-class types by-name names) count x) (length out₀) n out × (i ≤ count)
 
 abbrev μ-loop : tie.MeasureT-loop
 μ-loop file by-class types by-name names out₀ off count i₀ n₀ out i n = count - i
@@ -45,7 +47,8 @@ returns c =
     let at-loop-test = c .before .before .before .before .before .before in
     let at-loop = at-loop-test .before in
     let at-asked-count = at-loop .before in
-    recount (at-asked-count .asked-count .ensures) (over refl (no-room _ _ (at-loop .loop .inv .0) (at-loop-test .loop-test .taken) (c .before .before .before .before .method-step .ensures) (c .enum-told .given .1)))
+    recount (at-asked-count .asked-count .ensures) (over refl (no-room _ _ (at-loop .loop .inv .0) (at-loop-test .loop-test .taken)
+    (c .before .before .before .before .method-step .ensures) (c .enum-told .given .1)))
 
 add-i : tie.Need-add-i Inv-loop μ-loop
 add-i c = search needs
@@ -64,7 +67,9 @@ same-length-2 : tie.Need-same-length-2 Inv-loop μ-loop
 same-length-2 c = held-length (c .before .loop .inv .0)
 
 returns-2 : tie.Need-returns-2 Inv-loop μ-loop
-returns-2 c = recount (c .before .before .asked-count .ensures) (all _ refl (collect-end (c .before .loop .inv .0) (none-from _ _ _ (c .loop-test .left)) _ refl))
+returns-2 c =
+    recount (c .before .before .asked-count .ensures)
+    (all _ refl (collect-end (c .before .loop .inv .0) (none-from _ _ _ (c .loop-test .left)) _ refl))
 
 pub collect-spec : {M : Type 1} → statement M
 collect-spec =

@@ -44,7 +44,10 @@ returns c =
     let at-clear = at-method-fault .before .before .before .before in
     let start = at-clear .before .before .before .before .before .before .before .before .before .before .before in
     let a = start .args in
-    exit-fault (searchFor (area (a .file .now) (a .keys .now) (a .start) (a .end)) (query (a .class .now) (a .name .now)) (groupWords (a .str-offsets .now) (a .type-idxs .now)) (a .header .methods)) (at-fault .fault .given .0 .0) (sym (ap faultNumber (at-fault .fault .given .1)) ∙ at-method-fault .method-fault .ensures) (at-clear2 .clear2 .ensures) (c .before .before .clear3 .ensures) (at-clear .clear .ensures)
+    exit-fault (searchFor (area (a .file .now) (a .keys .now) (a .start) (a .end)) (query (a .class .now) (a .name .now))
+    (groupWords (a .str-offsets .now) (a .type-idxs .now)) (a .header .methods)) (at-fault .fault .given .0 .0)
+    (sym (ap faultNumber (at-fault .fault .given .1)) ∙ at-method-fault .method-fault .ensures) (at-clear2 .clear2 .ensures)
+    (c .before .before .clear3 .ensures) (at-clear .clear .ensures)
 
 enum-told : tie.Need-enum-told
 enum-told c = search needs
@@ -54,7 +57,10 @@ search-requires c κs =
     let at-method-fault = c .before .before .before .before .before in
     let at-clear = at-method-fault .before .before .before .before in
     let start = at-clear .before .before .before .before .before .before .before .before .before .before .before in
-    record { none = sym (ap faultNumber (c .before .before .before .enum-told .given .1)) ∙ at-method-fault .method-fault .ensures; clear = zeros-again (length (start .args .out .now)) _ (at-clear .clear .ensures) }
+    record {
+      none = sym (ap faultNumber (c .before .before .before .enum-told .given .1)) ∙ at-method-fault .method-fault .ensures;
+      clear = zeros-again (length (start .args .out .now)) _ (at-clear .clear .ensures);
+    }
 
 same-length-4 : tie.Need-same-length-4
 same-length-4 c = search needs

@@ -25,7 +25,8 @@ same-length c = search needs
 returns : tie.Need-returns
 returns c =
     let at-clear = c .before .before .before .before .before .before in
-    found-refused (owners-listed _ _) (c .before .fault .given .0 .0) _ (sym (ap faultNumber (c .before .fault .given .1)) ∙ c .before .before .before .search-fault .ensures) (at-clear .clear .ensures)
+    found-refused (owners-listed _ _) (c .before .fault .given .0 .0) _
+    (sym (ap faultNumber (c .before .fault .given .1)) ∙ c .before .before .before .search-fault .ensures) (at-clear .clear .ensures)
 
 enum-told : tie.Need-enum-told
 enum-told c = search needs
@@ -37,7 +38,8 @@ returns-2 : tie.Need-returns-2
 returns-2 c =
     let at-clear = c .before .before .before .before .before in
     let at-if1 = at-clear .before .before in
-    found-none (λ x o. omega (arith, o .asked, at-if1 .if1 .taken)) _ (sym (ap faultNumber (c .enum-told .given .1)) ∙ c .before .before .search-fault .ensures) (at-clear .clear .ensures)
+    found-none (λ x o. omega (arith, o .asked, at-if1 .if1 .taken)) _
+    (sym (ap faultNumber (c .enum-told .given .1)) ∙ c .before .before .search-fault .ensures) (at-clear .clear .ensures)
 
 locate-requires : tie.Need-locate-requires
 locate-requires c κs = search needs

@@ -18,7 +18,9 @@ enum-known-fault : tie.Need-enum-known-fault
 enum-known-fault c = search needs
 
 returns : tie.Need-returns
-returns c = fault-search _ _ _ _ _ _ (c .before .before .before .before .longer .ensures) (c .before .fault .given .0 .0) (sym (ap faultNumber (c .before .fault .given .1)) ∙ c .before .before .before .search-fault .ensures)
+returns c =
+    fault-search _ _ _ _ _ _ (c .before .before .before .before .longer .ensures) (c .before .fault .given .0 .0)
+    (sym (ap faultNumber (c .before .fault .given .1)) ∙ c .before .before .before .search-fault .ensures)
 
 enum-told : tie.Need-enum-told
 enum-told c = search needs
@@ -29,12 +31,16 @@ passes-end-requires c κs = search needs
 returns-2 : tie.Need-returns-2
 returns-2 c =
     let at-longer = c .before .before .before .before .before in
-    fault-table _ _ _ _ _ _ (at-longer .longer .ensures) (sym (ap faultNumber (c .before .before .enum-told .given .1)) ∙ c .before .before .before .before .search-fault .ensures) (met (c .before .passes-end .ensures) (c .if1 .taken))
+    fault-table _ _ _ _ _ _ (at-longer .longer .ensures)
+    (sym (ap faultNumber (c .before .before .enum-told .given .1)) ∙ c .before .before .before .before .search-fault .ensures)
+    (met (c .before .passes-end .ensures) (c .if1 .taken))
 
 returns-3 : tie.Need-returns-3
 returns-3 c =
     let at-longer = c .before .before .before .before .before in
-    fault-nothing _ _ _ _ _ _ (at-longer .longer .ensures) (sym (ap faultNumber (c .before .before .enum-told .given .1)) ∙ c .before .before .before .before .search-fault .ensures) (met (c .before .passes-end .ensures) (c .if1 .left))
+    fault-nothing _ _ _ _ _ _ (at-longer .longer .ensures)
+    (sym (ap faultNumber (c .before .before .enum-told .given .1)) ∙ c .before .before .before .before .search-fault .ensures)
+    (met (c .before .passes-end .ensures) (c .if1 .left))
 
 pub method-fault-spec : {M : Type 1} → statement M
 method-fault-spec =

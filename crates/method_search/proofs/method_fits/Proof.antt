@@ -27,7 +27,9 @@ among-requires-2 : tie.Need-among-requires-2
 among-requires-2 c κs = search needs
 
 returns : tie.Need-returns
-returns c = class-fits _ _ _ (c .before .before .before .before .u16-at .ensures .is) _ (c .before .before .before .among .ensures) (c .before .before .if1 .taken) _ (c .before .u32-at .ensures) _ (c .among2 .ensures)
+returns c =
+    class-fits _ _ _ (c .before .before .before .before .u16-at .ensures .is) _ (c .before .before .before .among .ensures)
+    (c .before .before .if1 .taken) _ (c .before .u32-at .ensures) _ (c .among2 .ensures)
 
 returns-2 : tie.Need-returns-2
 returns-2 c = class-other _ _ _ (c .before .before .u16-at .ensures .is) _ (c .before .among .ensures) (c .if1 .left)

@@ -31,7 +31,9 @@ returns c =
     let start = at-locate .before .before .before .before .before .before .before .before .before .before .before .before in
     let a = start .args in
     let p = start .pre in
-    exit-class (searchFor (area (a .file .now) (a .keys .now) (a .start) (a .end)) (query (a .class .now) (a .name .now)) (groupWords (a .str-offsets .now) (a .type-idxs .now)) (a .methods)) (p .none) (at-locate .locate .ensures) (c .enum-told .given .0 .0) (c .enum-told .given .1) _ (p .clear)
+    exit-class (searchFor (area (a .file .now) (a .keys .now) (a .start) (a .end)) (query (a .class .now) (a .name .now))
+    (groupWords (a .str-offsets .now) (a .type-idxs .now)) (a .methods)) (p .none) (at-locate .locate .ensures) (c .enum-told .given .0 .0)
+    (c .enum-told .given .1) _ (p .clear)
 
 settled-requires : tie.Need-settled-requires
 settled-requires c κs = search needs
@@ -48,7 +50,9 @@ returns-2 c =
     let start = at-locate .before .before .before .before .before .before .before .before .before .before .before .before in
     let a = start .args in
     let p = start .pre in
-    exit-settled (searchFor (area (a .file .now) (a .keys .now) (a .start) (a .end)) (query (a .class .now) (a .name .now)) (groupWords (a .str-offsets .now) (a .type-idxs .now)) (a .methods)) (p .none) (at-locate .locate .ensures) _ (c .before .before .before .t .given .1) (sym (c .before .settled .ensures) ∙ c .if1 .taken) _ (p .clear)
+    exit-settled (searchFor (area (a .file .now) (a .keys .now) (a .start) (a .end)) (query (a .class .now) (a .name .now))
+    (groupWords (a .str-offsets .now) (a .type-idxs .now)) (a .methods)) (p .none) (at-locate .locate .ensures) _
+    (c .before .before .before .t .given .1) (sym (c .before .settled .ensures) ∙ c .if1 .taken) _ (p .clear)
 
 locate-name-requires : tie.Need-locate-name-requires
 locate-name-requires c κs = search needs
@@ -78,7 +82,11 @@ returns-3 c =
     let start = at-locate .before .before .before .before .before .before .before .before .before .before .before .before in
     let a = start .args in
     let p = start .pre in
-    exit-name (searchFor (area (a .file .now) (a .keys .now) (a .start) (a .end)) (query (a .class .now) (a .name .now)) (groupWords (a .str-offsets .now) (a .type-idxs .now)) (a .methods)) (p .none) (at-locate .locate .ensures) _ (at-t .t .given .1) (sym (at-settled .settled .ensures) ∙ at-if1 .if1 .left) (at-locate-name .locate-name .ensures) (c .before .before .before .before .enum-told2 .given .0 .0) (c .before .before .before .before .enum-told2 .given .1) _ (c .before .before .clear .ensures) (omega (arith, at-locate .locate .kept)) _ (p .clear)
+    exit-name (searchFor (area (a .file .now) (a .keys .now) (a .start) (a .end)) (query (a .class .now) (a .name .now))
+    (groupWords (a .str-offsets .now) (a .type-idxs .now)) (a .methods)) (p .none) (at-locate .locate .ensures) _ (at-t .t .given .1)
+    (sym (at-settled .settled .ensures) ∙ at-if1 .if1 .left) (at-locate-name .locate-name .ensures)
+    (c .before .before .before .before .enum-told2 .given .0 .0) (c .before .before .before .before .enum-told2 .given .1) _
+    (c .before .before .clear .ensures) (omega (arith, at-locate .locate .kept)) _ (p .clear)
 
 select-requires : tie.Need-select-requires
 select-requires c κs =
@@ -90,7 +98,10 @@ select-requires c κs =
     let start = at-locate .before .before .before .before .before .before .before .before .before .before .before .before in
     let a = start .args in
     let p = start .pre in
-    chosen (searchFor (area (a .file .now) (a .keys .now) (a .start) (a .end)) (query (a .class .now) (a .name .now)) (groupWords (a .str-offsets .now) (a .type-idxs .now)) (a .methods)) (p .none) (at-locate .locate .ensures) _ (at-t .t .given .1) (sym (at-settled .settled .ensures) ∙ at-if1 .if1 .left) (at-locate-name .locate-name .ensures) _ (c .before .before .before .before .n .given .1) _ (p .clear)
+    chosen (searchFor (area (a .file .now) (a .keys .now) (a .start) (a .end)) (query (a .class .now) (a .name .now))
+    (groupWords (a .str-offsets .now) (a .type-idxs .now)) (a .methods)) (p .none) (at-locate .locate .ensures) _ (at-t .t .given .1)
+    (sym (at-settled .settled .ensures) ∙ at-if1 .if1 .left) (at-locate-name .locate-name .ensures) _ (c .before .before .before .before .n .given .1)
+    _ (p .clear)
 
 same-length-7 : tie.Need-same-length-7
 same-length-7 c = search needs
@@ -113,7 +124,10 @@ returns-4 c =
     let start = at-locate .before .before .before .before .before .before .before .before .before .before .before .before in
     let a = start .args in
     let p = start .pre in
-    exit-select (searchFor (area (a .file .now) (a .keys .now) (a .start) (a .end)) (query (a .class .now) (a .name .now)) (groupWords (a .str-offsets .now) (a .type-idxs .now)) (a .methods)) (p .none) (at-locate .locate .ensures) _ (at-t .t .given .1) (sym (at-settled .settled .ensures) ∙ at-if1 .if1 .left) (at-locate-name .locate-name .ensures) _ (at-n .n .given .1) (at-select .select .ensures) (omega (arith, at-locate .locate .kept)) (omega (arith, at-locate-name .locate-name .kept))
+    exit-select (searchFor (area (a .file .now) (a .keys .now) (a .start) (a .end)) (query (a .class .now) (a .name .now))
+    (groupWords (a .str-offsets .now) (a .type-idxs .now)) (a .methods)) (p .none) (at-locate .locate .ensures) _ (at-t .t .given .1)
+    (sym (at-settled .settled .ensures) ∙ at-if1 .if1 .left) (at-locate-name .locate-name .ensures) _ (at-n .n .given .1) (at-select .select .ensures)
+    (omega (arith, at-locate .locate .kept)) (omega (arith, at-locate-name .locate-name .kept))
 
 pub search-spec : {M : Type 1} → statement M
 search-spec =

@@ -59,7 +59,9 @@ returns c =
     let at-collect = at-clear .before .before .before .before in
     let m = at-collect .collect in
     record {
-      found = exit-short (m .ensures) 0 refl _ refl (fitting-listed _ _) _ (c .before .before .before .before .enum-told .given .1) (omega (arith, m .kept)) (c .before .before .clear3 .ensures);
+      found =
+          exit-short (m .ensures) 0 refl _ refl (fitting-listed _ _) _ (c .before .before .before .before .enum-told .given .1)
+          (omega (arith, m .kept)) (c .before .before .clear3 .ensures);
       types-cleared = at-clear .clear .ensures;
       names-cleared = at-clear2 .clear2 .ensures;
     }

@@ -28,7 +28,9 @@ returns : tie.Need-returns
 returns c =
     let at-fault = c .before .before .before .before .before in
     let at-head-fault = at-fault .before .before in
-    as-refused (c .before .before .refuse .ensures) (found-refused (named-listed _ _ _ _) (at-fault .fault .given .0 .0) _ (filter-head _ _ _ (at-fault .fault .given .0 .0) (sym (ap faultNumber (at-fault .fault .given .1)) ∙ at-head-fault .head-fault .ensures)) (c .before .before .refuse .ensures .cleared))
+    as-refused (c .before .before .refuse .ensures) (found-refused (named-listed _ _ _ _) (at-fault .fault .given .0 .0) _
+    (filter-head _ _ _ (at-fault .fault .given .0 .0) (sym (ap faultNumber (at-fault .fault .given .1)) ∙ at-head-fault .head-fault .ensures))
+    (c .before .before .refuse .ensures .cleared))
 
 enum-told : tie.Need-enum-told
 enum-told c = search needs
@@ -51,7 +53,7 @@ sift-all-requires c κs =
     let ok = no-fault _ _ (sym (ap faultNumber (at-enum-told .enum-told .given .1)) ∙ at-head-fault .head-fault .ensures) in
     let ids = ids-known _ _ _ (c .before .before .u32-at .ensures) (c .before .u32-at2 .ensures) ok in
     record {
-      few = omega (arith, ids, ok .small);
+      within = omega (arith, ids, ok .small);
       clear = zeros-again (length (start .args .out .now)) _ (at-clear .clear .ensures);
     }
 
@@ -75,7 +77,9 @@ returns-2 c =
     let at-clear = at-u32-at .before .before .before in
     let at-enum-told = at-clear .before .before in
     let at-head-fault = at-enum-told .before .before in
-    exit-done _ _ _ _ _ (at-u32-at .u32-at .ensures) (at-u32-at2 .u32-at2 .ensures) (sym (ap faultNumber (at-enum-told .enum-told .given .1)) ∙ at-head-fault .head-fault .ensures) (at-sift-all .sift-all .ensures) _ (zeros-length _ _ (at-clear .clear .ensures)) _ (c .before .n .given .1)
+    exit-done _ _ _ _ _ (at-u32-at .u32-at .ensures) (at-u32-at2 .u32-at2 .ensures)
+    (sym (ap faultNumber (at-enum-told .enum-told .given .1)) ∙ at-head-fault .head-fault .ensures) (at-sift-all .sift-all .ensures) _
+    (zeros-length _ _ (at-clear .clear .ensures)) _ (c .before .n .given .1)
 
 same-length-3 : tie.Need-same-length-3
 same-length-3 c = search needs
@@ -89,7 +93,10 @@ returns-3 c =
     let at-clear = at-u32-at .before .before .before in
     let at-enum-told = at-clear .before .before in
     let at-head-fault = at-enum-told .before .before in
-    as-refused (c .before .before .refuse2 .ensures) (exit-refused _ _ _ _ _ (at-u32-at .u32-at .ensures) (at-u32-at2 .u32-at2 .ensures) (sym (ap faultNumber (at-enum-told .enum-told .given .1)) ∙ at-head-fault .head-fault .ensures) (at-sift-all .sift-all .ensures) _ (zeros-length _ _ (at-clear .clear .ensures)) (at-why .why .given .0 .0) (at-why .why .given .1) _ (omega (arith, at-sift-all .sift-all .kept)) (c .before .before .refuse2 .ensures .cleared))
+    as-refused (c .before .before .refuse2 .ensures) (exit-refused _ _ _ _ _ (at-u32-at .u32-at .ensures) (at-u32-at2 .u32-at2 .ensures)
+    (sym (ap faultNumber (at-enum-told .enum-told .given .1)) ∙ at-head-fault .head-fault .ensures) (at-sift-all .sift-all .ensures) _
+    (zeros-length _ _ (at-clear .clear .ensures)) (at-why .why .given .0 .0) (at-why .why .given .1) _ (omega (arith, at-sift-all .sift-all .kept))
+    (c .before .before .refuse2 .ensures .cleared))
 
 pub locate-name-indices-spec : {M : Type 1} → statement M
 locate-name-indices-spec =

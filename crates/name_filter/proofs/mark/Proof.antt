@@ -4,7 +4,6 @@ use lib.ListN.{length}
 use Rattle.name_filter.proofs.Marks.{bits, Passed, passed-none, passed-index, passed-fault, passed-next, passed-all}
 use Rattle.name_filter.specs.Steps.{names}
 use borrow.Author.Needs.{needs}
-use native.Mathlib.Omega.{arith}
 use Rattle.name_filter.proofs.mark.Statement.{statement}
 use Rattle.name_filter.proofs.mark.Tie as tie
 
@@ -52,7 +51,8 @@ returns-2 c =
     let at-if1 = at-mark-one .before .before .before in
     let at-loop-test = at-if1 .before .before in
     let at-loop = at-loop-test .before in
-    passed-fault (at-loop .loop .inv) (at-loop-test .loop-test .taken) (at-if1 .if1 .left) (at-mark-one .mark-one .ensures) _ (c .before .fault .given .1)
+    passed-fault (at-loop .loop .inv) (at-loop-test .loop-test .taken) (at-if1 .if1 .left) (at-mark-one .mark-one .ensures) _
+    (c .before .fault .given .1)
 
 enum-told : tie.Need-enum-told Inv-loop μ-loop
 enum-told c = search needs
@@ -69,7 +69,8 @@ loop-again c =
     let at-if1 = at-mark-one .before .before .before in
     let at-loop-test = at-if1 .before .before in
     let at-loop = at-loop-test .before in
-    passed-next (at-loop .loop .inv) (at-loop-test .loop-test .taken) (at-if1 .if1 .left) (at-mark-one .mark-one .ensures) (c .enum-told .given .1) (at-mark-one .mark-one .kept .1 .1 .1 .1 .0) (at-mark-one .mark-one .kept .1 .1 .1 .1 .1 .0)
+    passed-next (at-loop .loop .inv) (at-loop-test .loop-test .taken) (at-if1 .if1 .left) (at-mark-one .mark-one .ensures) (c .enum-told .given .1)
+    (at-mark-one .mark-one .kept .1 .1 .1 .1 .0) (at-mark-one .mark-one .kept .1 .1 .1 .1 .1 .0)
 
 same-length-5 : tie.Need-same-length-5 Inv-loop μ-loop
 same-length-5 c = search needs

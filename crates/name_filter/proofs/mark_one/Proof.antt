@@ -52,8 +52,11 @@ returns-2 c =
     let start = at-holds .before .before .before .before .before .before in
     let a = start .args in
     let b = at-named .named .given .0 .0 in
-    let j = judged-at (ap (stringText (a .file .now)) (at-data-offset .data-offset .ensures)) (at-judge .judge .ensures) .known b (at-named .named .given .1) in
-    look-noted (a .index) (start .pre .marks) (sym (at-holds .holds .ensures) ∙ at-if1 .if1 .left) b (j .0) (j .1) (c .before .before .before .before .note .ensures)
+    let j =
+    judged-at (ap (stringText (a .file .now)) (at-data-offset .data-offset .ensures)) (at-judge .judge .ensures) .known b
+    (at-named .named .given .1) in
+    look-noted (a .index) (start .pre .marks) (sym (at-holds .holds .ensures) ∙ at-if1 .if1 .left) b (j .0) (j .1)
+    (c .before .before .before .before .note .ensures)
 
 same-length-4 : tie.Need-same-length-4
 same-length-4 c = search needs
@@ -63,7 +66,9 @@ returns-3 c =
     let start = c .before .before .before .before .before .before .before .before .before .before .before .before in
     let a = start .args in
     let why = c .before .why .given .0 .0 in
-    let j = judged-at (ap (stringText (a .file .now)) (c .before .before .before .before .data-offset .ensures)) (c .before .before .before .judge .ensures) .refused why (c .before .why .given .1) in
+    let j =
+    judged-at (ap (stringText (a .file .now)) (c .before .before .before .before .data-offset .ensures))
+    (c .before .before .before .judge .ensures) .refused why (c .before .why .given .1) in
     look-refused (a .index) (start .pre .marks) why j
 
 pub mark-one-spec : {M : Type 1} → statement M

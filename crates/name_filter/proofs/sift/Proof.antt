@@ -51,7 +51,8 @@ returns-2 c =
     let at-enum-told = c .before .before .before .before .before .before .before in
     let at-mark = at-enum-told .before .before .before .before .before .before in
     let start = at-mark .before .before .before .before .before .before .before .before .before in
-    sift-short (at-mark .mark .ensures) (ap faultNumber (at-enum-told .enum-told .given .1)) (omega (arith, start .pre .small, at-mark .mark .kept)) (start .pre .clear) (c .before .before .before .before .gather .ensures) (c .enum-told2 .given .1)
+    sift-short (at-mark .mark .ensures) (ap faultNumber (at-enum-told .enum-told .given .1)) (omega (arith, start .pre .small, at-mark .mark .kept))
+    (start .pre .clear) (c .before .before .before .before .gather .ensures) (c .enum-told2 .given .1)
 
 same-length-6 : tie.Need-same-length-6
 same-length-6 c = search needs
@@ -68,7 +69,8 @@ returns-3 c =
     let at-enum-told = at-gather .before .before .before in
     let at-mark = at-enum-told .before .before .before .before .before .before in
     let start = at-mark .before .before .before .before .before .before .before .before .before in
-    sift-done (at-mark .mark .ensures) (ap faultNumber (at-enum-told .enum-told .given .1)) (omega (arith, start .pre .small, at-mark .mark .kept)) (start .pre .clear) (at-gather .gather .ensures) _ (c .before .n .given .1)
+    sift-done (at-mark .mark .ensures) (ap faultNumber (at-enum-told .enum-told .given .1)) (omega (arith, start .pre .small, at-mark .mark .kept))
+    (start .pre .clear) (at-gather .gather .ensures) _ (c .before .n .given .1)
 
 pub sift-spec : {M : Type 1} → statement M
 sift-spec =

@@ -7,7 +7,7 @@ sift-few-requires : tie.Need-sift-few-requires
 sift-few-requires c κs =
     let start = c .before .before .before .before .before .before in
     let p = start .pre in
-    record { few = c .before .if1 .taken; clear = p .clear }
+    record { within = c .before .if1 .taken; clear = p .clear }
 
 same-length : tie.Need-same-length
 same-length c = search needs
@@ -19,7 +19,7 @@ sift-some-requires : tie.Need-sift-some-requires
 sift-some-requires c κs =
     let start = c .before .before .before .before .before .before .before in
     let p = start .pre in
-    record { few = c .before .if2 .taken; clear = p .clear }
+    record { within = c .before .if2 .taken; clear = p .clear }
 
 same-length-2 : tie.Need-same-length-2
 same-length-2 c = search needs

@@ -2,7 +2,7 @@
 -- Assumes nothing.
 use mathlib.Core.List.{List, [], _∷_}
 use Prim.Native.Nat.{ℕ}
-use native.Mathlib.Omega.{arith}
+use borrow.Author.Needs.{needs}
 use Rattle.words.proofs.Arms.{ranged, keyed}
 use mathlib.Core.Path.{ap}
 use Rattle.opcodes.specs.Length.{unitsOf, asLength, lengthRead}
@@ -19,23 +19,33 @@ returns c = ap asLength (keyed unitsOf 5 (24 ∷ []) (c .before .args .op) tt (c
 
 returns-2 : tie.Need-returns-2
 unfolding unitsOf lengthRead
-returns-2 c = ap asLength (ranged unitsOf keys 4 250 2 (c .before .before .before .before .before .before .args .op) tt (omega arith) (omega arith) (c .before .before .before .before .before .match .rest))
+returns-2 c =
+    let at-match = c .before .before .before .before .before in
+    ap asLength (ranged unitsOf keys 4 250 2 tt (search needs) (at-match .match .rest))
 
 returns-3 : tie.Need-returns-3
 unfolding unitsOf lengthRead
-returns-3 c = ap asLength (ranged unitsOf keys 0 62 6 (c .before .before .before .before .before .before .args .op) tt (omega arith) (omega arith) (c .before .before .before .before .before .match .rest))
+returns-3 c =
+    let at-match = c .before .before .before .before .before in
+    ap asLength (ranged unitsOf keys 0 62 6 tt (search needs) (at-match .match .rest))
 
 returns-4 : tie.Need-returns-4
 unfolding unitsOf lengthRead
-returns-4 c = ap asLength (ranged unitsOf keys 0 115 1 (c .before .before .before .before .args .op) tt (omega arith) (omega arith) (c .before .before .before .match .rest))
+returns-4 c =
+    let at-match = c .before .before .before in
+    ap asLength (ranged unitsOf keys 0 115 1 tt (search needs) (at-match .match .rest))
 
 returns-5 : tie.Need-returns-5
 unfolding unitsOf lengthRead
-returns-5 c = ap asLength (ranged unitsOf keys 0 121 2 (c .before .before .before .before .before .before .args .op) tt (omega arith) (omega arith) (c .before .before .before .before .before .match .rest))
+returns-5 c =
+    let at-match = c .before .before .before .before .before in
+    ap asLength (ranged unitsOf keys 0 121 2 tt (search needs) (at-match .match .rest))
 
 returns-6 : tie.Need-returns-6
 unfolding unitsOf lengthRead
-returns-6 c = ap asLength (ranged unitsOf keys 0 227 23 (c .before .before .before .before .before .args .op) tt (omega arith) (omega arith) (c .before .before .before .before .match .rest))
+returns-6 c =
+    let at-match = c .before .before .before .before in
+    ap asLength (ranged unitsOf keys 0 227 23 tt (search needs) (at-match .match .rest))
 
 returns-7 : tie.Need-returns-7
 unfolding unitsOf lengthRead
@@ -43,23 +53,33 @@ returns-7 c = ap asLength (keyed unitsOf 3 (3 ∷ 6 ∷ 9 ∷ 20 ∷ 23 ∷ 27 �
 
 returns-8 : tie.Need-returns-8
 unfolding unitsOf lengthRead
-returns-8 c = ap asLength (ranged unitsOf keys 3 36 3 (c .before .before .before .before .before .before .before .before .args .op) tt (omega arith) (omega arith) (c .before .before .before .before .before .before .before .match .rest))
+returns-8 c =
+    let at-match = c .before .before .before .before .before .before .before in
+    ap asLength (ranged unitsOf keys 3 36 3 tt (search needs) (at-match .match .rest))
 
 returns-9 : tie.Need-returns-9
 unfolding unitsOf lengthRead
-returns-9 c = ap asLength (ranged unitsOf keys 3 41 4 (c .before .before .before .before .args .op) tt (omega arith) (omega arith) (c .before .before .before .match .rest))
+returns-9 c =
+    let at-match = c .before .before .before in
+    ap asLength (ranged unitsOf keys 3 41 4 tt (search needs) (at-match .match .rest))
 
 returns-10 : tie.Need-returns-10
 unfolding unitsOf lengthRead
-returns-10 c = ap asLength (ranged unitsOf keys 3 110 5 (c .before .before .before .before .before .before .before .args .op) tt (omega arith) (omega arith) (c .before .before .before .before .before .before .match .rest))
+returns-10 c =
+    let at-match = c .before .before .before .before .before .before in
+    ap asLength (ranged unitsOf keys 3 110 5 tt (search needs) (at-match .match .rest))
 
 returns-11 : tie.Need-returns-11
 unfolding unitsOf lengthRead
-returns-11 c = ap asLength (ranged unitsOf keys 3 116 5 (c .before .before .before .before .before .args .op) tt (omega arith) (omega arith) (c .before .before .before .before .match .rest))
+returns-11 c =
+    let at-match = c .before .before .before .before in
+    ap asLength (ranged unitsOf keys 3 116 5 tt (search needs) (at-match .match .rest))
 
 returns-12 : tie.Need-returns-12
 unfolding unitsOf lengthRead
-returns-12 c = ap asLength (ranged unitsOf keys 3 252 2 (c .before .before .before .before .before .before .before .args .op) tt (omega arith) (omega arith) (c .before .before .before .before .before .before .match .rest))
+returns-12 c =
+    let at-match = c .before .before .before .before .before .before in
+    ap asLength (ranged unitsOf keys 3 252 2 tt (search needs) (at-match .match .rest))
 
 returns-13 : tie.Need-returns-13
 unfolding unitsOf lengthRead
@@ -67,31 +87,45 @@ returns-13 c = ap asLength (keyed unitsOf 2 (2 ∷ 5 ∷ 8 ∷ 19 ∷ 28 ∷ 41 
 
 returns-14 : tie.Need-returns-14
 unfolding unitsOf lengthRead
-returns-14 c = ap asLength (ranged unitsOf keys 2 19 8 (c .before .before .before .before .before .args .op) tt (omega arith) (omega arith) (c .before .before .before .before .match .rest))
+returns-14 c =
+    let at-match = c .before .before .before .before in
+    ap asLength (ranged unitsOf keys 2 19 8 tt (search needs) (at-match .match .rest))
 
 returns-15 : tie.Need-returns-15
 unfolding unitsOf lengthRead
-returns-15 c = ap asLength (ranged unitsOf keys 2 31 5 (c .before .before .before .before .before .before .before .args .op) tt (omega arith) (omega arith) (c .before .before .before .before .before .before .match .rest))
+returns-15 c =
+    let at-match = c .before .before .before .before .before .before in
+    ap asLength (ranged unitsOf keys 2 31 5 tt (search needs) (at-match .match .rest))
 
 returns-16 : tie.Need-returns-16
 unfolding unitsOf lengthRead
-returns-16 c = ap asLength (ranged unitsOf keys 2 45 17 (c .before .before .before .before .before .args .op) tt (omega arith) (omega arith) (c .before .before .before .before .match .rest))
+returns-16 c =
+    let at-match = c .before .before .before .before in
+    ap asLength (ranged unitsOf keys 2 45 17 tt (search needs) (at-match .match .rest))
 
 returns-17 : tie.Need-returns-17
 unfolding unitsOf lengthRead
-returns-17 c = ap asLength (ranged unitsOf keys 2 68 42 (c .before .before .before .before .before .before .before .args .op) tt (omega arith) (omega arith) (c .before .before .before .before .before .before .match .rest))
+returns-17 c =
+    let at-match = c .before .before .before .before .before .before in
+    ap asLength (ranged unitsOf keys 2 68 42 tt (search needs) (at-match .match .rest))
 
 returns-18 : tie.Need-returns-18
 unfolding unitsOf lengthRead
-returns-18 c = ap asLength (ranged unitsOf keys 2 144 32 (c .before .before .before .before .before .before .before .before .args .op) tt (omega arith) (omega arith) (c .before .before .before .before .before .before .before .match .rest))
+returns-18 c =
+    let at-match = c .before .before .before .before .before .before .before in
+    ap asLength (ranged unitsOf keys 2 144 32 tt (search needs) (at-match .match .rest))
 
 returns-19 : tie.Need-returns-19
 unfolding unitsOf lengthRead
-returns-19 c = ap asLength (ranged unitsOf keys 2 208 19 (c .before .before .before .before .args .op) tt (omega arith) (omega arith) (c .before .before .before .match .rest))
+returns-19 c =
+    let at-match = c .before .before .before in
+    ap asLength (ranged unitsOf keys 2 208 19 tt (search needs) (at-match .match .rest))
 
 returns-20 : tie.Need-returns-20
 unfolding unitsOf lengthRead
-returns-20 c = ap asLength (ranged unitsOf keys 2 254 2 (c .before .before .before .before .before .before .before .args .op) tt (omega arith) (omega arith) (c .before .before .before .before .before .before .match .rest))
+returns-20 c =
+    let at-match = c .before .before .before .before .before .before in
+    ap asLength (ranged unitsOf keys 2 254 2 tt (search needs) (at-match .match .rest))
 
 returns-21 : tie.Need-returns-21
 unfolding unitsOf lengthRead
@@ -99,23 +133,36 @@ returns-21 c = ap asLength (keyed unitsOf 1 (4 ∷ 7 ∷ 33 ∷ []) (c .before .
 
 returns-22 : tie.Need-returns-22
 unfolding unitsOf lengthRead
-returns-22 c = ap asLength (ranged unitsOf keys 1 0 19 (c .before .before .before .before .args .op) tt (omega arith) (omega arith) (c .before .before .before .match .rest))
+returns-22 c =
+    let at-match = c .before .before .before in
+    ap asLength (ranged unitsOf keys 1 0 19 tt (search needs) (at-match .match .rest))
 
 returns-23 : tie.Need-returns-23
 unfolding unitsOf lengthRead
-returns-23 c = ap asLength (ranged unitsOf keys 1 27 4 (c .before .before .before .before .before .before .args .op) tt (omega arith) (omega arith) (c .before .before .before .before .before .match .rest))
+returns-23 c =
+    let at-match = c .before .before .before .before .before in
+    ap asLength (ranged unitsOf keys 1 27 4 tt (search needs) (at-match .match .rest))
 
 returns-24 : tie.Need-returns-24
 unfolding unitsOf lengthRead
-returns-24 c = ap asLength (ranged unitsOf keys 1 39 2 (c .before .before .before .before .before .before .before .before .args .op) tt (omega arith) (omega arith) (c .before .before .before .before .before .before .before .match .rest))
+returns-24 c =
+    let at-match = c .before .before .before .before .before .before .before in
+    ap asLength (ranged unitsOf keys 1 39 2 tt (search needs) (at-match .match .rest))
 
 returns-25 : tie.Need-returns-25
 unfolding unitsOf lengthRead
-returns-25 c = ap asLength (ranged unitsOf keys 1 123 21 (c .before .before .before .before .before .before .before .args .op) tt (omega arith) (omega arith) (c .before .before .before .before .before .before .match .rest))
+returns-25 c =
+    let at-match = c .before .before .before .before .before .before in
+    ap asLength (ranged unitsOf keys 1 123 21 tt (search needs) (at-match .match .rest))
 
 returns-26 : tie.Need-returns-26
 unfolding unitsOf lengthRead
-returns-26 c = ap asLength (ranged unitsOf keys 1 176 32 (c .before .before .before .before .before .before .before .before .args .op) tt (omega arith) (omega arith) (c .before .before .before .before .before .before .before .match .rest))
+returns-26 c =
+    let at-match = c .before .before .before .before .before .before .before in
+    ap asLength (ranged unitsOf keys 1 176 32 tt (search needs) (at-match .match .rest))
 
 pub oplen-spec : {M : Type 1} → statement M
-oplen-spec = tie.close (tie.spec returns returns-2 returns-3 returns-4 returns-5 returns-6 returns-7 returns-8 returns-9 returns-10 returns-11 returns-12 returns-13 returns-14 returns-15 returns-16 returns-17 returns-18 returns-19 returns-20 returns-21 returns-22 returns-23 returns-24 returns-25 returns-26)
+oplen-spec =
+    tie.close (tie.spec returns returns-2 returns-3 returns-4 returns-5 returns-6 returns-7 returns-8 returns-9 returns-10 returns-11 returns-12
+    returns-13 returns-14 returns-15 returns-16 returns-17 returns-18 returns-19 returns-20 returns-21 returns-22 returns-23 returns-24 returns-25
+    returns-26)

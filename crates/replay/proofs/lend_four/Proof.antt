@@ -49,4 +49,7 @@ returns : tie.Need-returns
 returns c = search needs
 
 pub lend-four-spec : {M : Type 1} → statement M
-lend-four-spec = tie.close (tie.spec lent-requires lent-requires-2 lent-requires-3 lent-requires-4 array-borrow-prefix-o1 slice-aggregate-answer-four array-borrow-prefix-o2 slice-aggregate-answer-four-2 array-borrow-prefix-o3 slice-aggregate-answer-four-3 array-borrow-prefix-o4 slice-aggregate-answer-four-4 answer-four-requires returns)
+lend-four-spec =
+    tie.close (tie.spec lent-requires lent-requires-2 lent-requires-3 lent-requires-4 array-borrow-prefix-o1 slice-aggregate-answer-four
+    array-borrow-prefix-o2 slice-aggregate-answer-four-2 array-borrow-prefix-o3 slice-aggregate-answer-four-3 array-borrow-prefix-o4
+    slice-aggregate-answer-four-4 answer-four-requires returns)

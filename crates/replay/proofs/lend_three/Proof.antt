@@ -40,4 +40,6 @@ returns : tie.Need-returns
 returns c = search needs
 
 pub lend-three-spec : {M : Type 1} → statement M
-lend-three-spec = tie.close (tie.spec lent-requires lent-requires-2 lent-requires-3 array-borrow-prefix-o1 slice-aggregate-method-search array-borrow-prefix-o2 slice-aggregate-method-search-2 array-borrow-prefix-o3 slice-aggregate-method-search-3 method-search-requires returns)
+lend-three-spec =
+    tie.close (tie.spec lent-requires lent-requires-2 lent-requires-3 array-borrow-prefix-o1 slice-aggregate-method-search array-borrow-prefix-o2
+    slice-aggregate-method-search-2 array-borrow-prefix-o3 slice-aggregate-method-search-3 method-search-requires returns)

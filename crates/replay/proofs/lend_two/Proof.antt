@@ -31,4 +31,6 @@ returns : tie.Need-returns
 returns c = search needs
 
 pub lend-two-spec : {M : Type 1} → statement M
-lend-two-spec = tie.close (tie.spec lent-requires lent-requires-2 array-borrow-prefix-o1 slice-aggregate-answer-two array-borrow-prefix-o2 slice-aggregate-answer-two-2 answer-two-requires returns)
+lend-two-spec =
+    tie.close (tie.spec lent-requires lent-requires-2 array-borrow-prefix-o1 slice-aggregate-answer-two array-borrow-prefix-o2
+    slice-aggregate-answer-two-2 answer-two-requires returns)

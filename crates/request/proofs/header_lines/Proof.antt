@@ -39,7 +39,10 @@ unfolding headerLines
 returns-2 c =
     let at-strings = c .before .before .before .before .before in
     let at-pair-line = at-strings .before .before in
-    rw (← met (at-strings .strings .given .1) (at-pair-line .pair-line .ensures), ← met (c .enum-told2 .given .1) (c .before .before .pair-line2 .ensures))
+    rw (
+      ← met (at-strings .strings .given .1) (at-pair-line .pair-line .ensures),
+      ← met (c .enum-told2 .given .1) (c .before .before .pair-line2 .ensures),
+    )
 
 slice-aggregate-pair-line-3 : tie.Need-slice-aggregate-pair-line-3
 slice-aggregate-pair-line-3 c = search needs
@@ -60,7 +63,11 @@ returns-3 c =
     let at-pair-line2 = at-types .before .before in
     let at-strings = at-pair-line2 .before .before .before in
     let at-pair-line = at-strings .before .before in
-    rw (← met (at-strings .strings .given .1) (at-pair-line .pair-line .ensures), ← met (at-types .types .given .1) (at-pair-line2 .pair-line2 .ensures), ← met (c .enum-told3 .given .1) (c .before .before .pair-line3 .ensures))
+    rw (
+      ← met (at-strings .strings .given .1) (at-pair-line .pair-line .ensures),
+      ← met (at-types .types .given .1) (at-pair-line2 .pair-line2 .ensures),
+      ← met (c .enum-told3 .given .1) (c .before .before .pair-line3 .ensures),
+    )
 
 rest-lines-requires : tie.Need-rest-lines-requires
 rest-lines-requires c κs = search needs
@@ -72,7 +79,14 @@ returns-4 c =
     let at-pair-line2 = at-types .before .before in
     let at-strings = at-pair-line2 .before .before .before in
     let at-pair-line = at-strings .before .before in
-    rw (← met (at-strings .strings .given .1) (at-pair-line .pair-line .ensures), ← met (at-types .types .given .1) (at-pair-line2 .pair-line2 .ensures), ← met (c .before .before .prototypes .given .1) (c .before .before .before .before .pair-line3 .ensures)) (c .rest-lines .ensures)
+    rw (
+      ← met (at-strings .strings .given .1) (at-pair-line .pair-line .ensures),
+      ← met (at-types .types .given .1) (at-pair-line2 .pair-line2 .ensures),
+      ← met (c .before .before .prototypes .given .1) (c .before .before .before .before .pair-line3 .ensures),
+    ) (c .rest-lines .ensures)
 
 pub header-lines-spec : {M : Type 1} → statement M
-header-lines-spec = tie.close (tie.spec slice-aggregate-pair-line pair-line-requires enum-known-strings enum-told returns slice-aggregate-pair-line-2 pair-line-requires-2 enum-known-types enum-told-2 returns-2 slice-aggregate-pair-line-3 pair-line-requires-3 enum-known-prototypes enum-told-3 returns-3 rest-lines-requires returns-4)
+header-lines-spec =
+    tie.close (tie.spec slice-aggregate-pair-line pair-line-requires enum-known-strings enum-told returns slice-aggregate-pair-line-2
+    pair-line-requires-2 enum-known-types enum-told-2 returns-2 slice-aggregate-pair-line-3 pair-line-requires-3 enum-known-prototypes enum-told-3
+    returns-3 rest-lines-requires returns-4)

@@ -38,7 +38,8 @@ returns-2 : tie.Need-returns-2
 returns-2 c =
     let at-a = c .before .before .before .before .before .before .before in
     let at-read-word = at-a .before .before in
-    line-unread _ _ _ _ _ (met (at-a .a .given .1) (at-read-word .read-word .ensures)) (viewed _ (c .enum-told2 .given .1) (c .before .before .before .before .read-indices .ensures))
+    line-unread _ _ _ _ _ (met (at-a .a .given .1) (at-read-word .read-word .ensures))
+    (viewed _ (c .enum-told2 .given .1) (c .before .before .before .before .read-indices .ensures))
 
 read-line-end-requires : tie.Need-read-line-end-requires
 read-line-end-requires c κs = search needs
@@ -57,7 +58,9 @@ returns-3 c =
     let at-read-indices = c .before .before .before .before .before .before .before .before in
     let at-a = at-read-indices .before .before .before in
     let at-read-word = at-a .before .before in
-    line-unended _ _ _ _ _ _ _ (met (at-a .a .given .1) (at-read-word .read-word .ensures)) (viewed _ (c .before .before .before .before .count .given .1) (at-read-indices .read-indices .ensures)) (met (c .enum-told3 .given .1) (c .before .before .read-line-end .ensures))
+    line-unended _ _ _ _ _ _ _ (met (at-a .a .given .1) (at-read-word .read-word .ensures))
+    (viewed _ (c .before .before .before .before .count .given .1) (at-read-indices .read-indices .ensures))
+    (met (c .enum-told3 .given .1) (c .before .before .read-line-end .ensures))
 
 same-length-3 : tie.Need-same-length-3
 same-length-3 c = search needs
@@ -68,7 +71,9 @@ returns-4 c =
     let at-read-indices = at-count .before .before .before .before in
     let at-a = at-read-indices .before .before .before in
     let at-read-word = at-a .before .before in
-    line-done _ _ _ _ _ _ _ _ (met (at-a .a .given .1) (at-read-word .read-word .ensures)) (viewed _ (at-count .count .given .1) (at-read-indices .read-indices .ensures)) (met (c .before .c .given .1) (c .before .before .before .read-line-end .ensures))
+    line-done _ _ _ _ _ _ _ _ (met (at-a .a .given .1) (at-read-word .read-word .ensures))
+    (viewed _ (at-count .count .given .1) (at-read-indices .read-indices .ensures))
+    (met (c .before .c .given .1) (c .before .before .before .read-line-end .ensures))
 
 pub index-line-spec : {M : Type 1} → statement M
 index-line-spec =

@@ -14,7 +14,8 @@ use Rattle.request.proofs.read_indices.Statement.{statement}
 use Rattle.request.proofs.read_indices.Tie as tie
 
 abbrev Inv-loop : tie.InvT-loop
-Inv-loop text at wanted₀ i₀ n₀ t9 wanted i n = (n ≤ 16) × (length wanted ≡ length wanted₀) × (stored n wanted (indicesAt (16 - n) text i) ≡ stored 0 wanted₀ (indicesAt 16 text at))
+Inv-loop text at wanted₀ i₀ n₀ t9 wanted i n =
+    (n ≤ 16) × (length wanted ≡ length wanted₀) × (stored n wanted (indicesAt (16 - n) text i) ≡ stored 0 wanted₀ (indicesAt 16 text at))
 
 abbrev μ-loop : tie.MeasureT-loop
 μ-loop text at wanted₀ i₀ n₀ t9 wanted i n = 16 - n
@@ -39,7 +40,8 @@ returns c =
     let at-start = c .before .before .before .before .before .before .before in
     let l = c .before .before .before .before .loop in
     let s = at-start .args .text .now in
-    ends-without s (16 - l .n) (16 - (l .n + 1)) (l .i) (l .n) (l .wanted) _ (omega arith) (l .inv .2) (l .wanted) (met (c .enum-told .given .1) (c .before .before .read-number .ensures))
+    ends-without s {l = 16 - (l .n + 1)} (l .i) (l .n) (l .wanted) (omega arith) (l .inv .2) (l .wanted)
+    (met (c .enum-told .given .1) (c .before .before .read-number .ensures))
 
 put-requires : tie.Need-put-requires Inv-loop μ-loop
 put-requires c κs = search needs
@@ -71,7 +73,9 @@ returns-2 c =
     let at-start = at-loop .before .before .before in
     let l = at-loop .loop in
     let s = at-start .args .text .now in
-    ap (view _) (at-put .put .ensures) ∙ ends-with s (16 - l .n) (16 - (l .n + 1)) (l .i) (l .n) (l .wanted) _ (omega arith) (l .inv .2) _ _ (met (at-v .v .given .1) (at-read-number .read-number .ensures)) (met (c .enum-told2 .given .1) (c .before .before .read-word .ensures))
+    ap (view _) (at-put .put .ensures)
+    ∙ ends-with s {l = 16 - (l .n + 1)} (l .i) (l .n) (l .wanted) (omega arith) (l .inv .2) _ _
+    (met (at-v .v .given .1) (at-read-number .read-number .ensures)) (met (c .enum-told2 .given .1) (c .before .before .read-word .ensures))
 
 loop-less : tie.Need-loop-less Inv-loop μ-loop
 loop-less c = search needs
@@ -84,8 +88,14 @@ loop-again c =
     let at-loop = at-read-number .before .before in
     let at-start = at-loop .before .before .before in
     let l = at-loop .loop in
-    let s = at-start .args .text .now in
-    (omega arith, ap length (at-put .put .ensures) ∙ simp length-set (l .inv .1), ap (λ (ws : List ℕ). stored (l .n + 1) ws (indicesAt (16 - (l .n + 1)) s (c .before .q .given .0 .0))) (at-put .put .ensures) ∙ goes-on s (16 - l .n) (16 - (l .n + 1)) (l .i) (l .n) (l .wanted) _ (omega arith) (l .inv .2) _ _ _ (met (at-v .v .given .1) (at-read-number .read-number .ensures)) (met (c .before .q .given .1) (c .before .before .before .read-word .ensures)))
+    let s = at-start .args .text .now in (
+      omega arith,
+      ap length (at-put .put .ensures) ∙ simp length-set (l .inv .1),
+      ap (λ (ws : List ℕ). stored (l .n + 1) ws (indicesAt (16 - (l .n + 1)) s (c .before .q .given .0 .0))) (at-put .put .ensures)
+          ∙ goes-on s {l = 16 - (l .n + 1)} (l .i) (l .n) (l .wanted) (omega arith) (l .inv .2) _ _ _
+          (met (at-v .v .given .1) (at-read-number .read-number .ensures))
+          (met (c .before .q .given .1) (c .before .before .before .read-word .ensures)),
+    )
 
 same-length-3 : tie.Need-same-length-3 Inv-loop μ-loop
 same-length-3 c = search needs
@@ -94,7 +104,7 @@ returns-3 : tie.Need-returns-3 Inv-loop μ-loop
 returns-3 c =
     let l = c .before .loop in
     let s = c .before .before .before .before .args .text .now in
-    none-left s (16 - l .n) (l .i) (l .n) (l .wanted) (l .wanted) _ (omega arith) (l .inv .2)
+    none-left s {m = 16 - l .n} (l .i) (l .n) (l .wanted) (l .wanted) (omega arith) (l .inv .2)
 
 pub read-indices-spec : {M : Type 1} → statement M
 read-indices-spec =

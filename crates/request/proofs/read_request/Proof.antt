@@ -30,7 +30,9 @@ same-length c = search needs
 returns : tie.Need-returns
 returns c =
     let at-header-lines = c .before .before .before .before .before .before in
-    says-refused _ BadRequest _ _ _ _ (no-header _ _ (met (c .before .before .before .before .enum-told .given .1) (at-header-lines .header-lines .ensures))) (omega arith) (c .before .before .refuse .ensures)
+    says-refused BadRequest
+    (no-header _ _ (met (c .before .before .before .before .enum-told .given .1) (at-header-lines .header-lines .ensures)))
+    (omega arith) (c .before .before .refuse .ensures)
 
 kind-line-requires : tie.Need-kind-line-requires
 kind-line-requires c κs = search needs
@@ -52,7 +54,10 @@ returns-2 c =
     let at-kind-line = c .before .before .before .before .before .before in
     let at-header = at-kind-line .before .before in
     let at-header-lines = at-header .before .before in
-    says-refused _ BadRequest _ _ _ _ (no-kind _ _ _ _ (met (at-header .header .given .1) (at-header-lines .header-lines .ensures)) (met (c .before .before .before .before .enum-told2 .given .1) (at-kind-line .kind-line .ensures))) (omega arith) (c .before .before .refuse2 .ensures)
+    says-refused BadRequest
+    (no-kind _ _ (met (at-header .header .given .1) (at-header-lines .header-lines .ensures))
+    (met (c .before .before .before .before .enum-told2 .given .1) (at-kind-line .kind-line .ensures)))
+    (omega arith) (c .before .before .refuse2 .ensures)
 
 index-line-requires : tie.Need-index-line-requires
 index-line-requires c κs = search needs
@@ -76,7 +81,11 @@ returns-3 c =
     let at-kind-line = at-kind .before .before in
     let at-header = at-kind-line .before .before in
     let at-header-lines = at-header .before .before in
-    says-refused _ BadRequest _ _ _ _ (no-index _ _ _ _ (met (at-header .header .given .1) (at-header-lines .header-lines .ensures)) _ _ (met (at-kind .kind .given .1) (at-kind-line .kind-line .ensures)) _ _ (viewed _ (c .before .before .before .before .enum-told3 .given .1) (at-index-line .index-line .ensures))) (omega arith) (c .before .before .refuse3 .ensures)
+    says-refused BadRequest
+    (no-index _ _ (met (at-header .header .given .1) (at-header-lines .header-lines .ensures))
+    (met (at-kind .kind .given .1) (at-kind-line .kind-line .ensures)) _ _
+    (viewed _ (c .before .before .before .before .enum-told3 .given .1) (at-index-line .index-line .ensures)))
+    (omega arith) (c .before .before .refuse3 .ensures)
 
 refuse-requires-4 : tie.Need-refuse-requires-4
 refuse-requires-4 c κs = search needs
@@ -92,7 +101,11 @@ returns-4 c =
     let at-kind-line = at-kind .before .before in
     let at-header = at-kind-line .before .before in
     let at-header-lines = at-header .before .before in
-    says-refused _ BadRequest _ _ _ _ (more-text _ _ _ _ (met (at-header .header .given .1) (at-header-lines .header-lines .ensures)) _ _ (met (at-kind .kind .given .1) (at-kind-line .kind-line .ensures)) _ _ _ _ (viewed _ (at-count .count .given .1) (at-index-line .index-line .ensures)) (c .before .before .before .before .if1 .taken)) (omega arith) (c .before .before .refuse4 .ensures)
+    says-refused BadRequest
+    (more-text _ _ (met (at-header .header .given .1) (at-header-lines .header-lines .ensures))
+    (met (at-kind .kind .given .1) (at-kind-line .kind-line .ensures)) _ _ _ _
+    (viewed _ (at-count .count .given .1) (at-index-line .index-line .ensures)) (c .before .before .before .before .if1 .taken))
+    (omega arith) (c .before .before .refuse4 .ensures)
 
 refuse-requires-5 : tie.Need-refuse-requires-5
 refuse-requires-5 c κs = search needs
@@ -101,7 +114,20 @@ same-length-5 : tie.Need-same-length-5
 same-length-5 c = search needs
 
 returns-5 : tie.Need-returns-5
-returns-5 c = says-refused _ LentTooShort _ _ _ _ (more-indices _ _ _ _ (met (c .before .before .before .before .before .before .before .before .before .before .before .before .before .before .before .before .before .before .header .given .1) (c .before .before .before .before .before .before .before .before .before .before .before .before .before .before .before .before .before .before .before .before .header-lines .ensures)) _ _ (met (c .before .before .before .before .before .before .before .before .before .before .before .before .before .before .kind .given .1) (c .before .before .before .before .before .before .before .before .before .before .before .before .before .before .before .before .kind-line .ensures)) _ _ _ _ (viewed _ (c .before .before .before .before .before .before .before .count .given .1) (c .before .before .before .before .before .before .before .before .before .before .before .index-line .ensures)) (c .before .before .before .before .before .if1 .left) (omega arith)) (omega arith) (c .before .before .refuse5 .ensures)
+returns-5 c =
+    let at-if1 = c .before .before .before .before .before in
+    let at-count = at-if1 .before .before in
+    let at-index-line = at-count .before .before .before .before in
+    let at-kind = at-index-line .before .before .before in
+    let at-kind-line = at-kind .before .before in
+    let at-header = at-kind-line .before .before in
+    let at-header-lines = at-header .before .before in
+    says-refused LentTooShort
+    (more-indices _ _ (met (at-header .header .given .1) (at-header-lines .header-lines .ensures))
+    (met (at-kind .kind .given .1) (at-kind-line .kind-line .ensures)) _ _ _ _
+    (viewed _ (at-count .count .given .1) (at-index-line .index-line .ensures)) (at-if1 .if1 .left)
+    (omega (arith, c .before .before .before .before .if2 .taken, at-index-line .index-line .kept .1 .1 .0)))
+    (omega arith) (c .before .before .refuse5 .ensures)
 
 same-length-6 : tie.Need-same-length-6
 same-length-6 c = search needs
@@ -114,7 +140,10 @@ returns-6 c =
     let at-header = at-kind-line .before .before in
     let at-header-lines = at-header .before .before in
     let at-clear = at-header-lines .before .before .before in
-    says-asked _ _ _ _ (met (at-header .header .given .1) (at-header-lines .header-lines .ensures)) _ _ (met (at-kind .kind .given .1) (at-kind-line .kind-line .ensures)) _ _ _ _ (viewed _ (c .before .before .before .count .given .1) (at-index-line .index-line .ensures)) (c .before .if1 .left) (omega arith) (at-clear .clear .ensures) _ refl
+    says-asked _ _ (met (at-header .header .given .1) (at-header-lines .header-lines .ensures))
+    (met (at-kind .kind .given .1) (at-kind-line .kind-line .ensures)) _ _ _ _
+    (viewed _ (c .before .before .before .count .given .1) (at-index-line .index-line .ensures)) (c .before .if1 .left)
+    (omega arith) (at-clear .clear .ensures) _ refl
 
 pub read-request-spec : {M : Type 1} → statement M
 read-request-spec =

@@ -39,7 +39,10 @@ unfolding restLines
 returns-2 c =
     let at-fields = c .before .before .before .before .before in
     let at-pair-line = at-fields .before .before in
-    rw (← met (at-fields .fields .given .1) (at-pair-line .pair-line .ensures), ← met (c .enum-told2 .given .1) (c .before .before .pair-line2 .ensures))
+    rw (
+      ← met (at-fields .fields .given .1) (at-pair-line .pair-line .ensures),
+      ← met (c .enum-told2 .given .1) (c .before .before .pair-line2 .ensures),
+    )
 
 slice-aggregate-pair-line-3 : tie.Need-slice-aggregate-pair-line-3
 slice-aggregate-pair-line-3 c = search needs
@@ -60,7 +63,11 @@ returns-3 c =
     let at-pair-line2 = at-methods .before .before in
     let at-fields = at-pair-line2 .before .before .before in
     let at-pair-line = at-fields .before .before in
-    rw (← met (at-fields .fields .given .1) (at-pair-line .pair-line .ensures), ← met (at-methods .methods .given .1) (at-pair-line2 .pair-line2 .ensures), ← met (c .enum-told3 .given .1) (c .before .before .pair-line3 .ensures))
+    rw (
+      ← met (at-fields .fields .given .1) (at-pair-line .pair-line .ensures),
+      ← met (at-methods .methods .given .1) (at-pair-line2 .pair-line2 .ensures),
+      ← met (c .enum-told3 .given .1) (c .before .before .pair-line3 .ensures),
+    )
 
 slice-aggregate-number-line : tie.Need-slice-aggregate-number-line
 slice-aggregate-number-line c = search needs
@@ -83,7 +90,12 @@ returns-4 c =
     let at-pair-line2 = at-methods .before .before in
     let at-fields = at-pair-line2 .before .before .before in
     let at-pair-line = at-fields .before .before in
-    rw (← met (at-fields .fields .given .1) (at-pair-line .pair-line .ensures), ← met (at-methods .methods .given .1) (at-pair-line2 .pair-line2 .ensures), ← met (at-classes .classes .given .1) (at-pair-line3 .pair-line3 .ensures), ← met (c .enum-told4 .given .1) (c .before .before .number-line .ensures))
+    rw (
+      ← met (at-fields .fields .given .1) (at-pair-line .pair-line .ensures),
+      ← met (at-methods .methods .given .1) (at-pair-line2 .pair-line2 .ensures),
+      ← met (at-classes .classes .given .1) (at-pair-line3 .pair-line3 .ensures),
+      ← met (c .enum-told4 .given .1) (c .before .before .number-line .ensures),
+    )
 
 returns-5 : tie.Need-returns-5
 unfolding restLines
@@ -94,7 +106,15 @@ returns-5 c =
     let at-pair-line2 = at-methods .before .before in
     let at-fields = at-pair-line2 .before .before .before in
     let at-pair-line = at-fields .before .before in
-    rw (← met (at-fields .fields .given .1) (at-pair-line .pair-line .ensures), ← met (at-methods .methods .given .1) (at-pair-line2 .pair-line2 .ensures), ← met (at-classes .classes .given .1) (at-pair-line3 .pair-line3 .ensures), ← met (c .before .mapoff .given .1) (c .before .before .before .number-line .ensures))
+    rw (
+      ← met (at-fields .fields .given .1) (at-pair-line .pair-line .ensures),
+      ← met (at-methods .methods .given .1) (at-pair-line2 .pair-line2 .ensures),
+      ← met (at-classes .classes .given .1) (at-pair-line3 .pair-line3 .ensures),
+      ← met (c .before .mapoff .given .1) (c .before .before .before .number-line .ensures),
+    )
 
 pub rest-lines-spec : {M : Type 1} → statement M
-rest-lines-spec = tie.close (tie.spec slice-aggregate-pair-line pair-line-requires enum-known-fields enum-told returns slice-aggregate-pair-line-2 pair-line-requires-2 enum-known-methods enum-told-2 returns-2 slice-aggregate-pair-line-3 pair-line-requires-3 enum-known-classes enum-told-3 returns-3 slice-aggregate-number-line number-line-requires enum-known-mapoff enum-told-4 returns-4 returns-5)
+rest-lines-spec =
+    tie.close (tie.spec slice-aggregate-pair-line pair-line-requires enum-known-fields enum-told returns slice-aggregate-pair-line-2
+    pair-line-requires-2 enum-known-methods enum-told-2 returns-2 slice-aggregate-pair-line-3 pair-line-requires-3 enum-known-classes enum-told-3
+    returns-3 slice-aggregate-number-line number-line-requires enum-known-mapoff enum-told-4 returns-4 returns-5)

@@ -27,8 +27,10 @@ same-length-4 c = search needs
 
 returns : tie.Need-returns
 returns c =
-    let q = c .before .before .before .before .before .before .before .before .before .before .before .before .before .before in
-    record { answer = _; handed = c .tell-code-table .ensures; right = rw (q .before .before .before .before .before .header-of .ensures) at (q .parse .ensures) }
+    let at-shares = c .before .before .before .before .before .before .before in
+    let at-parse = at-shares .before .before .before .before .before .before .before in
+    let at-header-of = at-parse .before .before .before .before .before in
+    record { answer = _; handed = c .tell-code-table .ensures; right = rw (at-header-of .header-of .ensures) at (at-parse .parse .ensures) }
 
 pub ringlinden-code-table-spec : {M : Type 1} → statement M
 ringlinden-code-table-spec =

@@ -39,10 +39,14 @@ same-length-8 c = search needs
 
 returns : tie.Need-returns
 returns c =
-    let q = c .before .before .before .before .before .before .before .before .before .before .before .before .before .before .before .before .before .before .before .before in
-    let same = q .before .before .before .before .before .before .before .before .before .header-of .ensures in
-    let told = c .tell-found .ensures in
-    (record { answer = q .find .result; handed = told; right = rw same at (q .find .ensures .0) }, record { answer = q .find .result; handed = told; right = rw same at (q .find .ensures .1) })
+    let at-offs = c .before .before .before .before .before .before .before .before .before .before .before in
+    let at-find = at-offs .before .before .before .before .before .before .before .before .before in
+    let at-header-of = at-find .before .before .before .before .before .before .before .before .before in
+    let same = at-header-of .header-of .ensures in
+    let told = c .tell-found .ensures in (
+      record { answer = at-find .find .result; handed = told; right = rw same at (at-find .find .ensures .0) },
+      record { answer = at-find .find .result; handed = told; right = rw same at (at-find .find .ensures .1) },
+    )
 
 pub ringlinden-find-spec : {M : Type 1} → statement M
 ringlinden-find-spec =

@@ -16,7 +16,9 @@ same-length-2 : tie.Need-same-length-2
 same-length-2 c = search needs
 
 returns : tie.Need-returns
-returns c = record { answer = _; handed = c .tell .ensures; right = c .before .before .before .before .before .before .locate .ensures }
+returns c =
+    let at-locate = c .before .before .before .before .before .before in
+    record { answer = _; handed = c .tell .ensures; right = at-locate .locate .ensures }
 
 pub ringlinden-locate-spec : {M : Type 1} → statement M
 ringlinden-locate-spec =

@@ -27,8 +27,10 @@ same-length-4 c = search needs
 
 returns : tie.Need-returns
 returns c =
-    let q = c .before .before .before .before .before .before .before .before .before .before .before in
-    record { answer = _; handed = c .tell-method-groups .ensures; right = rw (q .before .before .before .before .before .header-of .ensures) at (q .build-map .ensures) }
+    let at-build-map = c .before .before .before .before .before .before .before .before .before .before .before in
+    let at-header-of = at-build-map .before .before .before .before .before in
+    record
+    { answer = _; handed = c .tell-method-groups .ensures; right = rw (at-header-of .header-of .ensures) at (at-build-map .build-map .ensures) }
 
 pub ringlinden-method-groups-spec : {M : Type 1} → statement M
 ringlinden-method-groups-spec =

@@ -24,8 +24,9 @@ same-length-3 c = search needs
 
 returns : tie.Need-returns
 returns c =
-    let q = c .before .before .before .before .before .before .before .before in
-    record { answer = _; handed = c .tell .ensures; right = rw (q .before .before .before .before .header-of .ensures) at (q .locate .ensures) }
+    let at-locate = c .before .before .before .before .before .before .before .before in
+    let at-header-of = at-locate .before .before .before .before in
+    record { answer = _; handed = c .tell .ensures; right = rw (at-header-of .header-of .ensures) at (at-locate .locate .ensures) }
 
 pub ringlinden-method-search-spec : {M : Type 1} → statement M
 ringlinden-method-search-spec =

@@ -16,7 +16,9 @@ same-length-2 : tie.Need-same-length-2
 same-length-2 c = search needs
 
 returns : tie.Need-returns
-returns c = record { answer = _; handed = c .tell .ensures; right = c .before .before .before .before .before .before .scan .ensures }
+returns c =
+    let at-scan = c .before .before .before .before .before .before in
+    record { answer = _; handed = c .tell .ensures; right = at-scan .scan .ensures }
 
 pub ringlinden-scan-spec : {M : Type 1} → statement M
 ringlinden-scan-spec =

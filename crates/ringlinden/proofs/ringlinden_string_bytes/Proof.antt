@@ -11,8 +11,8 @@ tell-string-text-requires c κs = search needs
 
 returns : tie.Need-returns
 returns c =
-    let q = c .before .before .before in
-    record { answer = q .string-data .result; handed = c .tell-string-text .ensures; right = q .string-data .ensures }
+    let at-string-data = c .before .before .before in
+    record { answer = at-string-data .string-data .result; handed = c .tell-string-text .ensures; right = at-string-data .string-data .ensures }
 
 pub ringlinden-string-bytes-spec : {M : Type 1} → statement M
 ringlinden-string-bytes-spec =

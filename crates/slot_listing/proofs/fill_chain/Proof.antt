@@ -14,13 +14,22 @@ use Rattle.slot_listing.proofs.Chains.{firstWord, lastWord, earlierWord
 use Rattle.slot_listing.proofs.fill_chain.Statement.{statement}
 use Rattle.slot_listing.proofs.fill_chain.Tie as tie
 
--- at share `at` the first j words are left to write: its list goes there, and the words after it are as they should be
-record Left (ws : List ℕ) (k n : ℕ) (out₀ out : List ℕ) (at j : ℕ) : Type 0 where
-  pub has : methodsOf ws at ≡ some (listBy (methodsOf ws at))
-  pub count : length (listBy (methodsOf ws at)) ≡ j
-  pub whole : listBy (methodsOf ws at) ++ drop j out ≡ listBy (methodsOf ws k) ++ drop n out₀
-  pub fewer : j ≤ n
-  pub long : length out ≡ length out₀
+-- where the loop stands: the words, the share that it has come to, and how many words are left to write
+record Place : Type 0 where
+  pub out : List ℕ
+  pub at : ℕ
+  pub left : ℕ
+
+abbrev place : List ℕ → ℕ → ℕ → Place
+place out at left = record { out = out; at = at; left = left }
+
+-- the list of the share goes into the words that are left, and the words after them are as they should be
+record Left (ws : List ℕ) (k n : ℕ) (out₀ : List ℕ) (p : Place) : Type 0 where
+  pub has : methodsOf ws (p .at) ≡ some (listBy (methodsOf ws (p .at)))
+  pub count : length (listBy (methodsOf ws (p .at))) ≡ p .left
+  pub whole : listBy (methodsOf ws (p .at)) ++ drop (p .left) (p .out) ≡ listBy (methodsOf ws k) ++ drop n out₀
+  pub fewer : p .left ≤ n
+  pub long : length (p .out) ≡ length out₀
 
 -- the word put at i, and those after it
 drop-put : (out : List ℕ) (i x : ℕ) → i < length out → drop i (set out i x) ≡ x ∷ drop (i + 1) out
@@ -35,10 +44,10 @@ first-two (x ∷ []) a b h = absurd (omega arith)
 first-two (x ∷ y ∷ zs) a b h = refl
 
 -- one method written: the last of the share's list
-step : (ws : List ℕ) (k n : ℕ) (out₀ out : List ℕ) (at j : ℕ) → Left ws k n out₀ out at j → Goes ws at (listBy (methodsOf ws at)) → 2 < j
-    → j ≤ length out
-    → Left ws k n out₀ (set out (j - 1) (lastWord ws at)) (earlierWord ws at - 1) (j - 1)
-step ws k n out₀ out at j s g h b =
+step : {ws : List ℕ} {k n : ℕ} {out₀ : List ℕ} (out : List ℕ) (at j : ℕ) → Left ws k n out₀ (place out at j)
+    → Goes ws at (listBy (methodsOf ws at)) → 2 < j → j ≤ length out
+    → Left ws k n out₀ (place (set out (j - 1) (lastWord ws at)) (earlierWord ws at - 1) (j - 1))
+step {ws} out at j s g h b =
     let x = lastWord ws at in
     let r = listBy (methodsOf ws (earlierWord ws at - 1)) in
     let q : r ≡ g .rest = ap listBy (g .restIs) in
@@ -57,7 +66,7 @@ step ws k n out₀ out at j s g h b =
     }
 
 abbrev Inv-loop : tie.InvT-loop
-Inv-loop shares k n methods₀ at₀ left₀ methods at left = Left shares k n methods₀ methods at left
+Inv-loop shares k n methods₀ at₀ left₀ methods at left = Left shares k n methods₀ (place methods at left)
 
 abbrev μ-loop : tie.MeasureT-loop
 μ-loop shares k n methods₀ at₀ left₀ methods at left = left
@@ -133,11 +142,8 @@ loop-less c = search needs
 
 loop-again : tie.Need-loop-again Inv-loop μ-loop
 loop-again c =
-    let ws = c .before .before .before .before .args .shares .now in
     let s = c .before .before .before .loop in
-    step ws (c .before .before .before .before .args .k) (c .before .before .before .before .args .n)
-    (c .before .before .before .before .args .methods .now) (s .methods) (s .at) (s .left) (s .inv) (on (c .before .before)) (omega arith)
-    (omega arith)
+    step (s .methods) (s .at) (s .left) (s .inv) (on (c .before .before)) (omega arith) (omega arith)
 
 mul-methods-4 : tie.Need-mul-methods-4 Inv-loop μ-loop
 mul-methods-4 c = omega (arith, ends (c))

@@ -2,7 +2,6 @@
 -- Assumes nothing.
 use Rattle.start_words.specs.Starts.{hasStart}
 use borrow.Author.Needs.{needs}
-use native.Mathlib.Omega.{arith}
 use Rattle.start_words.proofs.has_start.Statement.{statement}
 use Rattle.start_words.proofs.has_start.Tie as tie
 

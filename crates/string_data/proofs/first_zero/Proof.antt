@@ -10,7 +10,7 @@ memchr-requires : tie.Need-memchr-requires
 memchr-requires c κs = search needs
 
 sub-t6 : tie.Need-sub-t6
-sub-t6 c = omega (arith, c .before .memchr .ensures .behind (omega arith))
+sub-t6 c = omega (arith, c .before .memchr .ensures .after (omega arith))
 
 returns : tie.Need-returns
 returns c = zero-found _ _ _ (c .before .memchr .ensures) (c .if1 .taken)

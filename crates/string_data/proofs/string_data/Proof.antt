@@ -1,7 +1,7 @@
 -- `string_data::string_data` meets its contract: the loop keeps the text after the length bytes left equal to that after all five.
 -- Assumes nothing.
 use Rattle.string_data.proofs.Laws.{length-off, length-over, length-ends, length-more, length-none, too-large, small-enough}
-use Rattle.string_data.specs.Text.{behindLength}
+use Rattle.string_data.specs.Text.{afterLength}
 use Rattle.dalvik.specs.Numbers.{byte}
 use mathlib.Core.Logic.{⊎-elim}
 use mathlib.Core.Path.{_≡_, refl, sym, _∙_}
@@ -12,13 +12,16 @@ use Rattle.string_data.proofs.string_data.Statement.{statement}
 use Rattle.string_data.proofs.string_data.Tie as tie
 
 abbrev Inv-loop : tie.InvT-loop
-Inv-loop file offset at₀ left₀ at left = behindLength left file at ≡ behindLength 5 file offset
+Inv-loop file offset at₀ left₀ at left = afterLength left file at ≡ afterLength 5 file offset
 
 abbrev μ-loop : tie.MeasureT-loop
 μ-loop file offset at₀ left₀ at left = left
 
 -- where the two ways past the fifth byte's test meet
-fifth : (c : tie.Joined3 Inv-loop μ-loop) → c .before .before .before .before .loop .left - 1 ≡ 0 → byte (c .before .before .before .before .before .before .before .before .args .file .now) (c .before .before .before .before .loop .at) ≤ 15
+fifth : (c : tie.Joined3 Inv-loop μ-loop)
+    → let at-loop = c .before .before .before .before in
+    let start = at-loop .before .before .before .before in
+    at-loop .loop .left - 1 ≡ 0 → byte (start .args .file .now) (at-loop .loop .at) ≤ 15
 fifth c = ⊎-elim (λ w _. w .1 .left) (λ w e. absurd (w .left e)) (c .if3 .came)
 
 too-large-requires : tie.Need-too-large-requires Inv-loop μ-loop
@@ -33,7 +36,8 @@ loop-holds c = refl
 returns-2 : tie.Need-returns-2 Inv-loop μ-loop
 returns-2 c =
     let q = c .before .before in
-    small-enough _ _ (sym (q .before .before .too-large .ensures) ∙ q .before .if1 .left) _ (length-off _ _ _ (omega arith) (omega arith) ∙ q .loop .inv)
+    small-enough _ _ (sym (q .before .before .too-large .ensures) ∙ q .before .if1 .left) _
+    (length-off _ _ _ (omega arith) (omega arith) ∙ q .loop .inv)
 
 shared-slice-read-b : tie.Need-shared-slice-read-b Inv-loop μ-loop
 shared-slice-read-b c = search needs
@@ -47,7 +51,8 @@ sub-left c = search needs
 returns-3 : tie.Need-returns-3 Inv-loop μ-loop
 returns-3 c =
     let q = c .before .before .before .before .before in
-    small-enough _ _ (sym (q .before .before .too-large .ensures) ∙ q .before .if1 .left) _ (length-over _ _ _ (omega arith) (omega arith) (c .before .if3 .taken) (c .if4 .taken) ∙ q .loop .inv)
+    small-enough _ _ (sym (q .before .before .too-large .ensures) ∙ q .before .if1 .left) _
+    (length-over _ _ _ (omega arith) (omega arith) (c .before .if3 .taken) (c .if4 .taken) ∙ q .loop .inv)
 
 text-from-requires : tie.Need-text-from-requires Inv-loop μ-loop
 text-from-requires c κs = search needs
@@ -68,7 +73,8 @@ loop-again c =
 
 returns-5 : tie.Need-returns-5 Inv-loop μ-loop
 returns-5 c =
-    small-enough _ _ (sym (c .before .before .before .too-large .ensures) ∙ c .before .before .if1 .left) _ (length-none _ _ _ (omega arith) ∙ c .before .loop .inv)
+    small-enough _ _ (sym (c .before .before .before .too-large .ensures) ∙ c .before .before .if1 .left) _
+    (length-none _ _ _ (omega arith) ∙ c .before .loop .inv)
 
 pub string-data-spec : {M : Type 1} → statement M
 string-data-spec =

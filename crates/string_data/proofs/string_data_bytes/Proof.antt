@@ -12,7 +12,10 @@ use Rattle.string_data.proofs.string_data_bytes.Statement.{statement}
 use Rattle.string_data.proofs.string_data_bytes.Tie as tie
 
 -- the text is inside the file
-at : (c : tie.After-known-told) → c .before .start .given .0 .0 + c .before .start .given .0 .1 .0 < length (c .before .before .before .before .before .args .file .now)
+at : (c : tie.After-known-told)
+    → let text = c .before .start .given .0 in
+    let start = c .before .before .before .before .before in
+    text .0 + text .1 .0 < length (start .args .file .now)
 at c = inside _ _ _ _ (met (ap says (c .before .start .given .1)) (c .before .before .before .string-data .ensures))
 
 string-data-requires : tie.Need-string-data-requires

@@ -11,8 +11,11 @@ use Rattle.string_locator.proofs.build_map.Statement.{statement}
 use Rattle.string_locator.proofs.build_map.Tie as tie
 
 -- the words were cleared before the answer was found
+abbrev at-answer : tie.After-found → tie.After-answer
+at-answer c = c .before .before
+
 abbrev at-clear : tie.After-found → tie.After-clear-wide
-at-clear c = c .before .before .before .before .before .before
+at-clear c = at-answer c .before .before .before .before
 
 abbrev at-entry : tie.After-found → tie.Start
 at-entry c = at-clear c .before .before .before .before
@@ -21,9 +24,11 @@ at-entry c = at-clear c .before .before .before .before
 room-of : (c : tie.After-found)
     → let a = at-entry c .args in
     let v = c .found .given .0 in
-    Room (a .file .now) (a .header .strings .off) (a .header .strings .size) (length (at-clear c .clear-wide .last .0)) (area (v .0) (v .1 .0) (v .1 .1 .0))
+    Room (a .file .now) (a .header .strings .off) (a .header .strings .size) (length (at-clear c .clear-wide .last .0))
+    (area (v .0) (v .1 .0) (v .1 .1 .0))
 room-of c =
-    room _ _ _ (at-entry c .args .keys .now) _ (at-clear c .clear-wide .ensures) _ _ _ (met (ap says (c .found .given .1)) (c .before .before .answer .ensures))
+    room _ _ _ (at-entry c .args .keys .now) _ (at-clear c .clear-wide .ensures) _ _ _
+    (met (ap says (c .found .given .1)) (at-answer c .answer .ensures))
 
 clear-wide-requires : tie.Need-clear-wide-requires
 clear-wide-requires c κs = search needs
@@ -72,7 +77,7 @@ same-length-2 c = search needs
 returns-2 : tie.Need-returns-2
 returns-2 c =
     let at-found = c .before .before .before .before .before .before in
-    let e = met (ap says (at-found .found .given .1)) (at-found .before .before .answer .ensures) in
+    let e = met (ap says (at-found .found .given .1)) (at-answer at-found .answer .ensures) in
     let z = at-clear at-found .clear-wide .ensures in
     let k = at-entry at-found .args .keys .now in
     record { answer = same-answer _ _ _ k _ z _ e; keys = keys-written _ _ _ k _ z _ _ _ e _ (c .before .before .put-keys .ensures) }

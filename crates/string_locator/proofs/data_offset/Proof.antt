@@ -23,10 +23,15 @@ enum-told : tie.Need-enum-told
 enum-told c = search needs
 
 returns : tie.Need-returns
-returns c = absurd (read-not-outside _ _ (omega (arith, c .before .before .before .before .pre .ids (omega arith))) (met (c .enum-told .given .1) (c .before .before .read-u32 .ensures)))
+returns c =
+    let start = c .before .before .before .before in
+    absurd (read-not-outside _ _ (omega (arith, start .pre .ids (omega arith))) (met (c .enum-told .given .1) (c .before .before .read-u32 .ensures)))
 
 returns-2 : tie.Need-returns-2
-returns-2 c = read-inside _ _ (omega (arith, c .before .before .before .before .before .pre .ids (omega arith))) _ (met (c .before .offset .given .1) (c .before .before .before .read-u32 .ensures))
+returns-2 c =
+    let start = c .before .before .before .before .before in
+    read-inside _ _ (omega (arith, start .pre .ids (omega arith))) _
+    (met (c .before .offset .given .1) (c .before .before .before .read-u32 .ensures))
 
 pub data-offset-spec : {M : Type 1} → statement M
 data-offset-spec =

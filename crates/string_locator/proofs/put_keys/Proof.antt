@@ -59,12 +59,14 @@ sort-requires : tie.Need-sort-requires Inv-loop μ-loop
 sort-requires c κs = search needs
 
 same-length : tie.Need-same-length Inv-loop μ-loop
-same-length c = c .before .before .sort .kept .0 ∙ c .before .before .before .before .before .loop .inv .2
+same-length c =
+    let at-loop = c .before .before .before .before .before in
+    c .before .before .sort .kept .0 ∙ at-loop .loop .inv .2
 
 returns : tie.Need-returns Inv-loop μ-loop
 returns c =
-    let v = c .before .before .before .before .before .loop .inv in
-    c .before .before .sort .ensures ∙ ap sorted (v .0 ∙ keys-all _ _ _ _ (omega arith))
+    let at-loop = c .before .before .before .before .before in
+    c .before .before .sort .ensures ∙ ap sorted (at-loop .loop .inv .0 ∙ keys-all _ _ _ _ (omega arith))
 
 pub put-keys-spec : {M : Type 1} → statement M
 put-keys-spec =

@@ -37,7 +37,8 @@ enum-told-2 c = search needs
 returns-2 : tie.Need-returns-2
 returns-2 c =
     let q = c .before .before .before .before in
-    no-zero _ _ _ _ _ (met (q .len .given .1) (q .before .before .length-bytes .ensures)) (met (c .enum-told2 .given .1) (c .before .before .first-zero .ensures))
+    no-zero _ _ _ _ _ (met (q .len .given .1) (q .before .before .length-bytes .ensures))
+    (met (c .enum-told2 .given .1) (c .before .before .first-zero .ensures))
 
 add-t12 : tie.Need-add-t12
 add-t12 c = omega (arith, zero-in _ _ _ (met (c .before .before2 .given .1) (c .before .before .before .first-zero .ensures)))
@@ -48,7 +49,8 @@ add-t13 c = omega (arith, zero-in _ _ _ (met (c .before .before2 .given .1) (c .
 returns-3 : tie.Need-returns-3
 returns-3 c =
     let q = c .before .before .before .before .before in
-    area-found _ _ _ _ _ _ (met (q .len .given .1) (q .before .before .length-bytes .ensures)) (met (c .before .before2 .given .1) (c .before .before .before .first-zero .ensures))
+    area-found _ _ _ _ _ _ (met (q .len .given .1) (q .before .before .length-bytes .ensures))
+    (met (c .before .before2 .given .1) (c .before .before .before .first-zero .ensures))
 
 pub text-area-spec : {M : Type 1} → statement M
 text-area-spec =

@@ -27,7 +27,8 @@ same-length c = search needs
 returns : tie.Need-returns
 returns c =
     let at-clear = c .before .before .before .before .before .before in
-    found-refused (owners-listed _ _) _ _ (sym (ap faultNumber (c .before .fault .given .1)) ∙ c .before .before .before .search-fault .ensures) (at-clear .clear .ensures)
+    found-refused (owners-listed _ _) _ _ (sym (ap faultNumber (c .before .fault .given .1)) ∙ c .before .before .before .search-fault .ensures)
+    (at-clear .clear .ensures)
 
 enum-told : tie.Need-enum-told
 enum-told c = search needs
@@ -38,7 +39,8 @@ same-length-2 c = search needs
 returns-2 : tie.Need-returns-2
 returns-2 c =
     let at-clear = c .before .before .before .before .before .before in
-    found-none (backward _ _ (c .if1 .taken)) _ (sym (ap faultNumber (c .before .enum-told .given .1)) ∙ c .before .before .before .search-fault .ensures) (at-clear .clear .ensures)
+    found-none (backward _ _ (c .if1 .taken)) _
+    (sym (ap faultNumber (c .before .enum-told .given .1)) ∙ c .before .before .before .search-fault .ensures) (at-clear .clear .ensures)
 
 same-length-3 : tie.Need-same-length-3
 same-length-3 c = search needs
@@ -46,7 +48,9 @@ same-length-3 c = search needs
 returns-3 : tie.Need-returns-3
 returns-3 c =
     let at-clear = c .before .before .before .before .before .before .before in
-    found-none (past-end _ _ (c .if2 .taken)) _ (sym (ap faultNumber (c .before .before .enum-told .given .1)) ∙ c .before .before .before .before .search-fault .ensures) (at-clear .clear .ensures)
+    found-none (past-end _ _ (c .if2 .taken)) _
+    (sym (ap faultNumber (c .before .before .enum-told .given .1)) ∙ c .before .before .before .before .search-fault .ensures)
+    (at-clear .clear .ensures)
 
 match-string-offset-requires : tie.Need-match-string-offset-requires
 match-string-offset-requires c κs =
@@ -84,7 +88,9 @@ returns-4 c =
     let ok = no-fault _ _ _ _ (sym (ap faultNumber (at-enum-told .enum-told .given .1)) ∙ at-search-fault .search-fault .ensures) in
     let m = at-match-string-offset .match-string-offset in
     let z = zeros-length _ _ (at-clear .clear .ensures) in
-    exit-short (in-area _ _ (ok .least) (at-if1 .if1 .left) (at-if2 .if2 .left) (m .ensures)) _ (sym (ap faultNumber (at-enum-told .enum-told .given .1)) ∙ at-search-fault .search-fault .ensures) _ z (owners-listed _ _) _ (c .before .before .before .before .enum-told2 .given .1) (omega (arith, m .kept)) (c .before .before .fill .ensures)
+    exit-short (in-area _ _ (ok .least) (at-if1 .if1 .left) (at-if2 .if2 .left) (m .ensures)) _
+    (sym (ap faultNumber (at-enum-told .enum-told .given .1)) ∙ at-search-fault .search-fault .ensures) _ z (owners-listed _ _) _
+    (c .before .before .before .before .enum-told2 .given .1) (omega (arith, m .kept)) (c .before .before .fill .ensures)
 
 same-length-5 : tie.Need-same-length-5
 same-length-5 c = search needs
@@ -98,7 +104,9 @@ returns-5 c =
     let at-search-fault = at-enum-told .before .before in
     let at-clear = at-search-fault .before .before .before in
     let ok = no-fault _ _ _ _ (sym (ap faultNumber (at-enum-told .enum-told .given .1)) ∙ at-search-fault .search-fault .ensures) in
-    exit-all (in-area _ _ (ok .least) (at-if1 .if1 .left) (at-if2 .if2 .left) (at-match-string-offset .match-string-offset .ensures)) _ (sym (ap faultNumber (at-enum-told .enum-told .given .1)) ∙ at-search-fault .search-fault .ensures) _ (zeros-length _ _ (at-clear .clear .ensures)) _ (c .before .n .given .1)
+    exit-all (in-area _ _ (ok .least) (at-if1 .if1 .left) (at-if2 .if2 .left) (at-match-string-offset .match-string-offset .ensures)) _
+    (sym (ap faultNumber (at-enum-told .enum-told .given .1)) ∙ at-search-fault .search-fault .ensures) _
+    (zeros-length _ _ (at-clear .clear .ensures)) _ (c .before .n .given .1)
 
 pub locate-spec : {M : Type 1} → statement M
 locate-spec =

@@ -4,7 +4,8 @@ use borrow.Author.Needs.{needs}
 use Prim.Native.Nat.{_-_, _≤_}
 use mathlib.Core.Path.{_≡_, refl}
 use lib.ListN.{length}
-use Rattle.word_set.specs.Found.{over}
+use Rattle.word_set.specs.Steps.{over}
+use Rattle.index_set.specs.Marked.{setWords}
 use Rattle.index_set.proofs.Marking.{Marking, mark-start, mark-length, mark-end}
 use Rattle.string_search.specs.Search.{OwnsFrom}
 use Rattle.string_search.proofs.Finds.{none-owned}
@@ -14,7 +15,9 @@ use Rattle.string_search.proofs.match_marked.Statement.{statement}
 use Rattle.string_search.proofs.match_marked.Tie as tie
 
 abbrev Inv-loop : tie.InvT-loop
-Inv-loop file keys start end query marks₀ out₀ from₀ n₀ marks out from n = Marking (OwnsFrom file keys query end start) (OwnsFrom file keys query end from) marks (length out₀) n out × (from ≤ end) × (length marks ≡ length marks₀)
+Inv-loop file keys start end query marks₀ out₀ from₀ n₀ marks out from n =
+    Marking (OwnsFrom file keys query end start) (OwnsFrom file keys query end from) (length out₀) n (setWords marks out) × (from ≤ end)
+    × (length marks ≡ length marks₀)
 
 abbrev μ-loop : tie.MeasureT-loop
 μ-loop file keys start end query marks₀ out₀ from₀ n₀ marks out from n = end - from
@@ -26,8 +29,11 @@ loop-holds c =
 
 next-find-requires : tie.Need-next-find-requires Inv-loop μ-loop
 next-find-requires c κs =
-    let start = c .before .before .before .before .before .before in
-    (record { inside = start .pre .0 .area .inside; small = start .pre .0 .area .small; short = start .pre .0 .area .short; forward = c .loop .inv .1 }, start .pre .0 .asked)
+    let start = c .before .before .before .before .before .before in (
+      record
+          { inside = start .pre .0 .area .inside; small = start .pre .0 .area .small; short = start .pre .0 .area .short; forward = c .loop .inv .1 },
+      start .pre .0 .asked,
+    )
 
 enum-known-at : tie.Need-enum-known-at Inv-loop μ-loop
 enum-known-at c = search needs
@@ -53,7 +59,8 @@ returns c =
     let at-enum-told = c .before .before .before .before .before in
     let at-next-find = at-enum-told .before .before in
     let at-loop = at-next-find .before in
-    mark-end _ (at-loop .loop .inv .0) (none-owned (found-none (at-enum-told .enum-told .given .1) (at-next-find .next-find .ensures))) (c .before .before .gather .ensures)
+    mark-end _ (at-loop .loop .inv .0) (none-owned (found-none (at-enum-told .enum-told .given .1) (at-next-find .next-find .ensures)))
+    (c .before .before .gather .ensures)
 
 add-from : tie.Need-add-from Inv-loop μ-loop
 add-from c =
@@ -92,7 +99,8 @@ returns-2 c =
     let at-at = at-match-step .before .before .before .before in
     let at-next-find = at-at .before .before in
     let at-loop = at-next-find .before in
-    over refl (no-room (at-loop .loop .inv .0) (found-at _ (at-at .at .given .1) (at-next-find .next-find .ensures)) (at-match-step .match-step .ensures) (c .enum-told2 .given .1))
+    over refl (no-room (at-loop .loop .inv .0) (found-at _ (at-at .at .given .1) (at-next-find .next-find .ensures))
+    (at-match-step .match-step .ensures) (c .enum-told2 .given .1))
 
 loop-less : tie.Need-loop-less Inv-loop μ-loop
 loop-less c =
@@ -100,7 +108,7 @@ loop-less c =
     let at-next-find = at-at .before .before in
     let start = at-next-find .before .before .before .before .before .before .before in
     let f = found-at _ (at-at .at .given .1) (at-next-find .next-find .ensures) in
-    omega (arith, f .occurs .inside, f .behind, start .pre .0 .asked)
+    omega (arith, f .occurs .inside, f .after, start .pre .0 .asked)
 
 loop-again : tie.Need-loop-again Inv-loop μ-loop
 loop-again c =
@@ -108,8 +116,11 @@ loop-again c =
     let at-at = at-match-step .before .before .before .before in
     let at-next-find = at-at .before .before in
     let at-loop = at-next-find .before in
-    let f = found-at _ (at-at .at .given .1) (at-next-find .next-find .ensures) in
-    (turn (at-loop .loop .inv .0) f (at-match-step .match-step .ensures) (c .before .m .given .1), f .occurs .inside, omega (arith, at-match-step .match-step .kept, at-loop .loop .inv .2))
+    let f = found-at _ (at-at .at .given .1) (at-next-find .next-find .ensures) in (
+      turn (at-loop .loop .inv .0) f (at-match-step .match-step .ensures) (c .before .m .given .1),
+      f .occurs .inside,
+      omega (arith, at-match-step .match-step .kept, at-loop .loop .inv .2),
+    )
 
 pub match-marked-spec : {M : Type 1} → statement M
 match-marked-spec =

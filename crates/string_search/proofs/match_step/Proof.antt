@@ -17,7 +17,7 @@ enum-told : tie.Need-enum-told
 enum-told c = search needs
 
 returns : tie.Need-returns
-returns c = passed (sym (met (c .enum-told .given .1) (c .before .before .owner-of .ensures))) refl refl refl
+returns c = passed (sym (met (c .enum-told .given .1) (c .before .before .owner-of .ensures))) refl refl
 
 add-requires : tie.Need-add-requires
 add-requires c κs = search needs

@@ -43,7 +43,8 @@ returns c =
     let start = c .before .before .before .before .before .before .before .before .before in
     let p = start .pre in
     let k = c .before .before .before .loop in
-    at-place _ refl (ahead-found (p .1) (p .0 .inside) (k .inv) (c .before .before .loop-test .taken) (c .before .stands-at .ensures .yes (c .if1 .taken)))
+    at-place _ refl
+    (ahead-found (p .1) (p .0 .inside) (k .inv) (c .before .before .loop-test .taken) (c .before .stands-at .ensures .yes (c .if1 .taken)))
 
 add-pair : tie.Need-add-pair Inv-loop μ-loop
 add-pair c = search needs
@@ -62,7 +63,8 @@ loop-again c =
     let start = c .before .before .before .before .before .before .before .before .before .before in
     let p = start .pre in
     let k = c .before .before .before .before .loop in
-    ahead-next (p .1) (p .0 .inside) (k .inv) (c .before .before .before .loop-test .taken) (c .before .before .stands-at .ensures .no (c .before .if1 .left)) (c .pair2 .ensures)
+    ahead-next (p .1) (p .0 .inside) (k .inv) (c .before .before .before .loop-test .taken)
+    (c .before .before .stands-at .ensures .no (c .before .if1 .left)) (c .pair2 .ensures)
 
 returns-2 : tie.Need-returns-2 Inv-loop μ-loop
 returns-2 c =

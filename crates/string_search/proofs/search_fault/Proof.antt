@@ -24,12 +24,14 @@ keys-good-requires c κs = search needs
 returns-4 : tie.Need-returns-4
 returns-4 c =
     let at-too-large = c .before .before .before .before .before in
-    fault-none _ _ _ _ (met (at-too-large .too-large .ensures) (c .before .before .before .before .if1 .left)) (c .before .before .before .if2 .left) (c .before .before .if3 .left) (met (c .before .keys-good .ensures) (c .if4 .taken))
+    fault-none _ _ _ _ (met (at-too-large .too-large .ensures) (c .before .before .before .before .if1 .left)) (c .before .before .before .if2 .left)
+    (c .before .before .if3 .left) (met (c .before .keys-good .ensures) (c .if4 .taken))
 
 returns-5 : tie.Need-returns-5
 returns-5 c =
     let at-too-large = c .before .before .before .before .before in
-    fault-keys _ _ _ _ (met (at-too-large .too-large .ensures) (c .before .before .before .before .if1 .left)) (c .before .before .before .if2 .left) (c .before .before .if3 .left) (met (c .before .keys-good .ensures) (c .if4 .left))
+    fault-keys _ _ _ _ (met (at-too-large .too-large .ensures) (c .before .before .before .before .if1 .left)) (c .before .before .before .if2 .left)
+    (c .before .before .if3 .left) (met (c .before .keys-good .ensures) (c .if4 .left))
 
 pub search-fault-spec : {M : Type 1} → statement M
 search-fault-spec =

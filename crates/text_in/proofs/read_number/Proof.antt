@@ -28,12 +28,15 @@ enum-told : tie.Need-enum-told
 enum-told c = search needs
 
 returns-3 : tie.Need-returns-3
-returns-3 c = number-large _ _ _ (c .before .before .before .before .digits-end .ensures) (c .before .before .before .if2 .left) (met (c .enum-told .given .1) (c .before .before .value .ensures))
+returns-3 c =
+    number-large _ _ _ (c .before .before .before .before .digits-end .ensures) (c .before .before .before .if2 .left)
+    (met (c .enum-told .given .1) (c .before .before .value .ensures))
 
 returns-4 : tie.Need-returns-4
 returns-4 c =
     let at-digits-end = c .before .before .before .before .before in
-    number-some _ _ _ (at-digits-end .digits-end .ensures) _ (c .before .before .before .before .if2 .left) (met (c .before .v .given .1) (c .before .before .before .value .ensures))
+    number-some _ _ _ (at-digits-end .digits-end .ensures) _ (c .before .before .before .before .if2 .left)
+    (met (c .before .v .given .1) (c .before .before .before .value .ensures))
 
 pub read-number-spec : {M : Type 1} → statement M
 read-number-spec =

@@ -21,13 +21,13 @@ same-length c = search needs
 returns : tie.Need-returns
 returns c =
     let at-put = c .before .before .before .before .before .before .before in
-    ends-over _ _ (at-put .put .last .0) _ (at-put .put .ensures) _ (omega arith) (c .before .before .clear-bytes .ensures)
+    ends-over (at-put .put .ensures) _ (omega arith) (c .before .before .clear-bytes .ensures)
 
 same-length-2 : tie.Need-same-length-2
 same-length-2 c = search needs
 
 returns-2 : tie.Need-returns-2
-returns-2 c = ends-fit _ _ _ _ (c .before .before .before .put .ensures) (omega arith)
+returns-2 c = ends-fit (c .before .before .before .put .ensures) (omega arith)
 
 pub end-line-spec : {M : Type 1} → statement M
 end-line-spec = tie.close (tie.spec slice-aggregate-put put-requires clear-bytes-requires same-length returns same-length-2 returns-2)

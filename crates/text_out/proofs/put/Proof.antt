@@ -39,7 +39,7 @@ loop-again c =
     let l = at-loop .loop in
     let a = at-start .args in
     let e = c .before .before .put-byte .ensures in
-    (omega arith, ap length (e .written) ∙ length-set (l .out) (l .p) _ ∙ l .inv .1, writes-next (a .out .now) (a .at) (a .bytes .now) (l .out) (l .p) (l .i) _ _ (omega arith) (l .inv .2) e)
+    (omega arith, ap length (e .written) ∙ length-set (l .out) (l .p) _ ∙ l .inv .1, writes-next (a .bytes .now) (l .i) (omega arith) (l .inv .2) e)
 
 same-length : tie.Need-same-length Inv-loop μ-loop
 same-length c = search needs

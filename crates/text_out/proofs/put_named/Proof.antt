@@ -1,6 +1,5 @@
 -- `text_out::put_named` meets its contract: two pieces written one after the other are one.
 -- Assumes nothing.
-use Rattle.text_out.specs.Text.{decimal}
 use Rattle.text_out.proofs.Laws.{writes-then}
 use borrow.Author.Needs.{needs}
 use Rattle.text_out.proofs.put_named.Statement.{statement}
@@ -18,9 +17,7 @@ same-length c = search needs
 returns : tie.Need-returns
 returns c =
     let at-put = c .before .before .before .before .before .before in
-    let at-start = at-put .before .before .before .before in
-    let a = at-start .args in
-    writes-then _ _ (a .name .now) (at-put .put .last .0) _ (decimal (a .n)) _ _ (at-put .put .ensures) (c .before .before .put-number .ensures)
+    writes-then (at-put .put .ensures) (c .before .before .put-number .ensures)
 
 pub put-named-spec : {M : Type 1} → statement M
 put-named-spec = tie.close (tie.spec put-requires put-number-requires same-length returns)

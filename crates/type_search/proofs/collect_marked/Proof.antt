@@ -5,7 +5,8 @@ use borrow.Author.Needs.{needs}
 use Prim.Native.Nat.{_-_, _≤_}
 use mathlib.Core.Path.{_≡_, refl}
 use lib.ListN.{length, drop}
-use Rattle.word_set.specs.Found.{over}
+use Rattle.word_set.specs.Steps.{over}
+use Rattle.index_set.specs.Marked.{setWords}
 use Rattle.index_set.proofs.Marking.{Marking, mark-start, mark-length, mark-end}
 use Rattle.type_search.specs.Steps.{TypesOf}
 use Rattle.type_search.proofs.Types.{turn, no-room, types-none}
@@ -14,7 +15,9 @@ use Rattle.type_search.proofs.collect_marked.Statement.{statement}
 use Rattle.type_search.proofs.collect_marked.Tie as tie
 
 abbrev Inv-loop : tie.InvT-loop
-Inv-loop str-offsets type-idxs found marks₀ out₀ n₀ i₀ marks out n i = Marking (TypesOf (groupWords str-offsets type-idxs) found) (TypesOf (groupWords str-offsets type-idxs) (drop i found)) marks (length out₀) n out × (i ≤ length found) × (length marks ≡ length marks₀)
+Inv-loop str-offsets type-idxs found marks₀ out₀ n₀ i₀ marks out n i =
+    Marking (TypesOf (groupWords str-offsets type-idxs) found) (TypesOf (groupWords str-offsets type-idxs) (drop i found)) (length out₀) n
+    (setWords marks out) × (i ≤ length found) × (length marks ≡ length marks₀)
 
 abbrev μ-loop : tie.MeasureT-loop
 μ-loop str-offsets type-idxs found marks₀ out₀ n₀ i₀ marks out n i = length found - i
@@ -60,7 +63,8 @@ returns c =
     let at-slice = at-extend .before in
     let at-loop-test = at-slice .before .before .before .before in
     let at-loop = at-loop-test .before in
-    over refl (no-room _ _ _ (at-loop-test .loop-test .taken) (at-loop .loop .inv .0) _ (at-slice .slice .ensures) (at-extend .extend .ensures) (c .enum-told .given .1))
+    over refl (no-room _ _ _ (at-loop-test .loop-test .taken) (at-loop .loop .inv .0) _ (at-slice .slice .ensures) (at-extend .extend .ensures)
+    (c .enum-told .given .1))
 
 add-i : tie.Need-add-i Inv-loop μ-loop
 add-i c = search needs
@@ -73,8 +77,12 @@ loop-again c =
     let at-extend = c .before .before .before .before .before .before .before in
     let at-slice = at-extend .before in
     let at-loop-test = at-slice .before .before .before .before in
-    let at-loop = at-loop-test .before in
-    (turn _ _ _ (at-loop-test .loop-test .taken) (at-loop .loop .inv .0) _ (at-slice .slice .ensures) (at-extend .extend .ensures) _ (c .before .m .given .1), omega arith, omega (arith, at-extend .extend .kept, at-loop .loop .inv .2))
+    let at-loop = at-loop-test .before in (
+      turn _ _ _ (at-loop-test .loop-test .taken) (at-loop .loop .inv .0) _ (at-slice .slice .ensures) (at-extend .extend .ensures) _
+          (c .before .m .given .1),
+      omega arith,
+      omega (arith, at-extend .extend .kept, at-loop .loop .inv .2),
+    )
 
 gather-requires : tie.Need-gather-requires Inv-loop μ-loop
 gather-requires c κs = search needs

@@ -40,7 +40,9 @@ returns c =
     let a = start .args in
     let zs = at-clear .clear .ensures in
     let zo = at-clear2 .clear2 .ensures in
-    exit-fault (area (a .file .now) (a .keys .now) (a .start) (a .end)) (a .query .now) (groupWords (a .str-offsets .now) (a .type-idxs .now)) (a .strings .now) (a .out .now) _ _ zs zo (c .before .fault .given .0 .0) (sym (ap faultNumber (c .before .fault .given .1)) ∙ c .before .before .before .search-fault .ensures)
+    exit-fault (area (a .file .now) (a .keys .now) (a .start) (a .end)) (a .query .now) (groupWords (a .str-offsets .now) (a .type-idxs .now))
+    (a .strings .now) (a .out .now) _ _ zs zo (c .before .fault .given .0 .0)
+    (sym (ap faultNumber (c .before .fault .given .1)) ∙ c .before .before .before .search-fault .ensures)
 
 enum-told : tie.Need-enum-told
 enum-told c = search needs
@@ -59,7 +61,9 @@ returns-2 c =
     let a = start .args in
     let zs = at-clear .clear .ensures in
     let zo = at-clear2 .clear2 .ensures in
-    exit-empty (area (a .file .now) (a .keys .now) (a .start) (a .end)) (a .query .now) (groupWords (a .str-offsets .now) (a .type-idxs .now)) (a .strings .now) (a .out .now) _ _ zs zo (sym (ap faultNumber (c .before .enum-told .given .1)) ∙ c .before .before .before .search-fault .ensures) (c .if1 .taken)
+    exit-empty (area (a .file .now) (a .keys .now) (a .start) (a .end)) (a .query .now) (groupWords (a .str-offsets .now) (a .type-idxs .now))
+    (a .strings .now) (a .out .now) _ _ zs zo
+    (sym (ap faultNumber (c .before .enum-told .given .1)) ∙ c .before .before .before .search-fault .ensures) (c .if1 .taken)
 
 locate-requires : tie.Need-locate-requires
 locate-requires c κs = search needs
@@ -87,7 +91,11 @@ returns-3 c =
     let a = start .args in
     let zs = at-clear .clear .ensures in
     let zo = at-clear2 .clear2 .ensures in
-    exit-strings (area (a .file .now) (a .keys .now) (a .start) (a .end)) (a .query .now) (groupWords (a .str-offsets .now) (a .type-idxs .now)) (a .strings .now) (a .out .now) _ _ zs zo (sym (ap faultNumber (at-enum-told .enum-told .given .1)) ∙ at-search-fault .search-fault .ensures) (c .before .before .before .before .locate .ensures) (asked-fault _ _ _ (at-if1 .if1 .left) (sym (ap faultNumber (at-enum-told .enum-told .given .1)) ∙ at-search-fault .search-fault .ensures)) (c .enum-told2 .given .0 .0) (c .enum-told2 .given .1)
+    exit-strings (area (a .file .now) (a .keys .now) (a .start) (a .end)) (a .query .now) (groupWords (a .str-offsets .now) (a .type-idxs .now))
+    (a .strings .now) (a .out .now) _ _ zs zo (sym (ap faultNumber (at-enum-told .enum-told .given .1)) ∙ at-search-fault .search-fault .ensures)
+    (c .before .before .before .before .locate .ensures)
+    (asked-fault _ _ _ (at-if1 .if1 .left) (sym (ap faultNumber (at-enum-told .enum-told .given .1)) ∙ at-search-fault .search-fault .ensures))
+    (c .enum-told2 .given .0 .0) (c .enum-told2 .given .1)
 
 slice-reshare-prefix-collect : tie.Need-slice-reshare-prefix-collect
 slice-reshare-prefix-collect c =
@@ -141,7 +149,11 @@ returns-4 c =
     let a = start .args in
     let zs = at-clear .clear .ensures in
     let zo = at-clear2 .clear2 .ensures in
-    exit-types (area (a .file .now) (a .keys .now) (a .start) (a .end)) (a .query .now) (groupWords (a .str-offsets .now) (a .type-idxs .now)) (a .strings .now) (a .out .now) _ _ zs zo (sym (ap faultNumber (at-enum-told .enum-told .given .1)) ∙ at-search-fault .search-fault .ensures) (at-locate .locate .ensures) _ (at-n .n .given .1) _ (at-fill .fill .ensures) (omega (arith, at-locate .locate .kept)) (at-collect .collect .ensures) _ (c .before .before .before .before .enum-told3 .given .1) (omega (arith, at-collect .collect .kept)) (c .before .before .clear3 .ensures)
+    exit-types (area (a .file .now) (a .keys .now) (a .start) (a .end)) (a .query .now) (groupWords (a .str-offsets .now) (a .type-idxs .now))
+    (a .strings .now) (a .out .now) _ _ zs zo (sym (ap faultNumber (at-enum-told .enum-told .given .1)) ∙ at-search-fault .search-fault .ensures)
+    (at-locate .locate .ensures) _ (at-n .n .given .1) _ (at-fill .fill .ensures) (omega (arith, at-locate .locate .kept))
+    (at-collect .collect .ensures) _ (c .before .before .before .before .enum-told3 .given .1) (omega (arith, at-collect .collect .kept))
+    (c .before .before .clear3 .ensures)
 
 same-length-9 : tie.Need-same-length-9
 same-length-9 c = search needs
@@ -163,7 +175,10 @@ returns-5 c =
     let a = start .args in
     let zs = at-clear .clear .ensures in
     let zo = at-clear2 .clear2 .ensures in
-    exit-done (area (a .file .now) (a .keys .now) (a .start) (a .end)) (a .query .now) (groupWords (a .str-offsets .now) (a .type-idxs .now)) (a .strings .now) (a .out .now) _ _ zs zo (sym (ap faultNumber (at-enum-told .enum-told .given .1)) ∙ at-search-fault .search-fault .ensures) (at-locate .locate .ensures) _ (at-n .n .given .1) _ (at-fill .fill .ensures) (omega (arith, at-locate .locate .kept)) (at-collect .collect .ensures) _ (c .before .found .given .1)
+    exit-done (area (a .file .now) (a .keys .now) (a .start) (a .end)) (a .query .now) (groupWords (a .str-offsets .now) (a .type-idxs .now))
+    (a .strings .now) (a .out .now) _ _ zs zo (sym (ap faultNumber (at-enum-told .enum-told .given .1)) ∙ at-search-fault .search-fault .ensures)
+    (at-locate .locate .ensures) _ (at-n .n .given .1) _ (at-fill .fill .ensures) (omega (arith, at-locate .locate .kept))
+    (at-collect .collect .ensures) _ (c .before .found .given .1)
 
 pub locate-spec : {M : Type 1} → statement M
 locate-spec =

@@ -30,13 +30,17 @@ loop-less : tie.Need-loop-less Inv-loop μ-loop
 loop-less c = search needs
 
 loop-again : tie.Need-loop-again Inv-loop μ-loop
-loop-again c = filled-more (c .before .before .args .w .now) (c .before .before .args .v) (c .before .loop .w) (c .before .loop .i) (c .before .loop .inv) (omega arith)
+loop-again c =
+    filled-more (c .before .before .args .w .now) (c .before .before .args .v) (c .before .loop .w) (c .before .loop .i) (c .before .loop .inv)
+    (omega arith)
 
 same-length : tie.Need-same-length Inv-loop μ-loop
 same-length c = search needs
 
 returns : tie.Need-returns Inv-loop μ-loop
-returns c = filled-all (c .before .before .args .w .now) (c .before .before .args .v) (c .before .loop .w) (c .before .loop .i) (c .before .loop .inv) (omega arith)
+returns c =
+    filled-all (c .before .before .args .w .now) (c .before .before .args .v) (c .before .loop .w) (c .before .loop .i) (c .before .loop .inv)
+    (omega arith)
 
 pub fill-spec : {M : Type 1} → statement M
 fill-spec =

@@ -27,19 +27,21 @@ enum-known-q c = search needs
 returns : tie.Need-returns
 returns c =
     let at-r = c .before in
-    methods-no1 _ _ _ (met (at-r .r .given .1) (at-r .before .before .class-sizes .ensures))
+    methods-no1 _ _ (met (at-r .r .given .1) (at-r .before .before .class-sizes .ensures))
 
 returns-2 : tie.Need-returns-2
 returns-2 c =
     let at-r = c .before in
     let at-sizes = at-r .before .before .before .before in
-    methods-no2 _ _ _ _ _ _ (met (at-sizes .fields .given .1) (at-sizes .before .before .class-sizes .ensures)) _ (met (at-r .r2 .given .1) (at-r .before .before .skip-numbers .ensures))
+    methods-no2 _ _ (met (at-sizes .fields .given .1) (at-sizes .before .before .class-sizes .ensures))
+    (met (at-r .r2 .given .1) (at-r .before .before .skip-numbers .ensures))
 
 returns-3 : tie.Need-returns-3
 returns-3 c =
     let at-q = c .before in
     let at-sizes = at-q .before .before .before .before in
-    methods-at _ _ _ _ _ _ (met (at-sizes .fields .given .1) (at-sizes .before .before .class-sizes .ensures)) _ (met (at-q .q .given .1) (at-q .before .before .skip-numbers .ensures))
+    methods-at _ _ (met (at-sizes .fields .given .1) (at-sizes .before .before .class-sizes .ensures))
+    (met (at-q .q .given .1) (at-q .before .before .skip-numbers .ensures))
 
 pub class-methods-spec : {M : Type 1} → statement M
 class-methods-spec =

@@ -35,7 +35,11 @@ add-fields : tie.Need-add-fields
 add-fields c =
     let at-b = c .before in
     let at-a = at-b .before .before .before .before in
-    omega (arith, fast-keeps _ _ _ _ (met (at-a .statics .given .1) (at-a .before .before .read-uleb128-fast .ensures)), fast-keeps _ _ _ _ (met (at-b .instances .given .1) (at-b .before .before .read-uleb128-fast2 .ensures)))
+    omega (
+      arith,
+      fast-keeps _ _ _ _ (met (at-a .statics .given .1) (at-a .before .before .read-uleb128-fast .ensures)),
+      fast-keeps _ _ _ _ (met (at-b .instances .given .1) (at-b .before .before .read-uleb128-fast2 .ensures)),
+    )
 
 mul-fields : tie.Need-mul-fields
 mul-fields c = search needs
@@ -57,20 +61,24 @@ enum-known-direct c = search needs
 returns : tie.Need-returns
 returns c =
     let at-r = c .before in
-    sizes-no1 _ _ _ (two-no1 _ _ _ (met (at-r .r .given .1) (at-r .before .before .read-uleb128-fast .ensures)))
+    sizes-no1 _ _ (two-no1 _ _ (met (at-r .r .given .1) (at-r .before .before .read-uleb128-fast .ensures)))
 
 returns-2 : tie.Need-returns-2
 returns-2 c =
     let at-r = c .before in
     let at-a = at-r .before .before .before .before in
-    sizes-no1 _ _ _ (two-no2 _ _ _ _ (met (at-a .statics .given .1) (at-a .before .before .read-uleb128-fast .ensures)) _ (met (at-r .r2 .given .1) (at-r .before .before .read-uleb128-fast2 .ensures)))
+    sizes-no1 _ _
+    (two-no2 _ _ (met (at-a .statics .given .1) (at-a .before .before .read-uleb128-fast .ensures))
+    (met (at-r .r2 .given .1) (at-r .before .before .read-uleb128-fast2 .ensures)))
 
 returns-3 : tie.Need-returns-3
 returns-3 c =
     let at-r = c .before in
     let at-b = at-r .before .before .before .before in
     let at-a = at-b .before .before .before .before in
-    sizes-no2 _ _ _ _ _ (two-at _ _ _ _ (met (at-a .statics .given .1) (at-a .before .before .read-uleb128-fast .ensures)) _ _ (met (at-b .instances .given .1) (at-b .before .before .read-uleb128-fast2 .ensures))) _
+    sizes-no2 _ _
+    (two-at _ _ (met (at-a .statics .given .1) (at-a .before .before .read-uleb128-fast .ensures))
+    (met (at-b .instances .given .1) (at-b .before .before .read-uleb128-fast2 .ensures)))
     (met (at-r .r3 .given .1) (at-r .before .before .read-two .ensures))
 
 returns-4 : tie.Need-returns-4
@@ -78,7 +86,9 @@ returns-4 c =
     let at-two = c .before in
     let at-b = at-two .before .before .before .before in
     let at-a = at-b .before .before .before .before in
-    sizes-at _ _ _ _ _ (two-at _ _ _ _ (met (at-a .statics .given .1) (at-a .before .before .read-uleb128-fast .ensures)) _ _ (met (at-b .instances .given .1) (at-b .before .before .read-uleb128-fast2 .ensures))) _ _ _
+    sizes-at _ _
+    (two-at _ _ (met (at-a .statics .given .1) (at-a .before .before .read-uleb128-fast .ensures))
+    (met (at-b .instances .given .1) (at-b .before .before .read-uleb128-fast2 .ensures)))
     (met (at-two .direct .given .1) (at-two .before .before .read-two .ensures))
 
 pub class-sizes-spec : {M : Type 1} → statement M

@@ -23,7 +23,10 @@ returns : tie.Need-returns
 returns c = item-header _ _ (read32-outside _ _ (met (c .enum-told .given .1) (c .before .before .read-u32 .ensures)))
 
 returns-2 : tie.Need-returns-2
-returns-2 c = let v = read32-value _ _ _ (met (c .before .before .units .given .1) (c .before .before .before .before .read-u32 .ensures)) in item-empty _ _ (v .inside) _ (v .is) (omega arith)
+returns-2 c =
+    let at-units = c .before .before in
+    let v = read32-value _ _ _ (met (at-units .units .given .1) (at-units .before .before .read-u32 .ensures)) in
+    item-empty _ _ (v .inside) _ (v .is) (omega arith)
 
 add-if2 : tie.Need-add-if2
 add-if2 c = search needs
@@ -38,10 +41,18 @@ add-if2-2 : tie.Need-add-if2-2
 add-if2-2 c = search needs
 
 returns-3 : tie.Need-returns-3
-returns-3 c = let v = read32-value _ _ _ (met (c .before .before .before .units .given .1) (c .before .before .before .before .before .read-u32 .ensures)) in item-past _ _ (v .inside) _ (v .is) (c .before .if1 .left) (omega arith)
+returns-3 c =
+    let at-if1 = c .before in
+    let at-units = at-if1 .before .before in
+    let v = read32-value _ _ _ (met (at-units .units .given .1) (at-units .before .before .read-u32 .ensures)) in
+    item-past _ _ (v .inside) _ (v .is) (at-if1 .if1 .left) (omega arith)
 
 returns-4 : tie.Need-returns-4
-returns-4 c = let v = read32-value _ _ _ (met (c .before .before .before .units .given .1) (c .before .before .before .before .before .read-u32 .ensures)) in item-units _ _ (v .inside) _ (v .is) (c .before .if1 .left) (omega arith)
+returns-4 c =
+    let at-if1 = c .before in
+    let at-units = at-if1 .before .before in
+    let v = read32-value _ _ _ (met (at-units .units .given .1) (at-units .before .before .read-u32 .ensures)) in
+    item-units _ _ (v .inside) _ (v .is) (at-if1 .if1 .left) (omega arith)
 
 pub code-item-spec : {M : Type 1} → statement M
 code-item-spec =

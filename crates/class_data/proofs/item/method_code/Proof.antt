@@ -18,13 +18,23 @@ enum-known-p : tie.Need-enum-known-p
 enum-known-p c = search needs
 
 returns : tie.Need-returns
-returns c = method-bare _ _ _ _ _ _ _ (head-told _ _ _ _ (c .before .before .before .before .method-head .ensures) _ _ _ (c .before .before .p .given .1)) (omega arith)
+returns c =
+    let at-head = c .before .before in
+    method-bare _ (head-told _ _ _ _ (at-head .before .before .method-head .ensures) (at-head .p .given .1)) (omega arith)
 
 returns-2 : tie.Need-returns-2
-returns-2 c = method-index _ _ _ _ _ _ _ (head-told _ _ _ _ (c .before .before .before .before .before .method-head .ensures) _ _ _ (c .before .before .before .p .given .1)) (c .before .if1 .left) (omega arith)
+returns-2 c =
+    let at-if1 = c .before in
+    let at-head = at-if1 .before .before in
+    method-index _ (head-told _ _ _ _ (at-head .before .before .method-head .ensures) (at-head .p .given .1))
+    (at-if1 .if1 .left) (omega arith)
 
 returns-3 : tie.Need-returns-3
-returns-3 c = method-large _ _ _ _ _ _ _ (head-told _ _ _ _ (c .before .before .before .before .before .before .method-head .ensures) _ _ _ (c .before .before .before .before .p .given .1)) (c .before .before .if1 .left) (omega arith) (omega arith)
+returns-3 c =
+    let at-if1 = c .before .before in
+    let at-head = at-if1 .before .before in
+    method-large _ (head-told _ _ _ _ (at-head .before .before .method-head .ensures) (at-head .p .given .1))
+    (at-if1 .if1 .left) (omega arith) (omega arith)
 
 code-item-requires : tie.Need-code-item-requires
 code-item-requires c κs = search needs
@@ -36,13 +46,24 @@ enum-told : tie.Need-enum-told
 enum-told c = search needs
 
 returns-4 : tie.Need-returns-4
-returns-4 c = method-outside _ _ _ _ _ _ _ (head-told _ _ _ _ (c .before .before .before .before .before .before .before .before .before .method-head .ensures) _ _ _ (c .before .before .before .before .before .before .before .p .given .1)) (c .before .before .before .before .before .if1 .left) (omega arith) (omega arith) (met (c .enum-told .given .1) (c .before .before .code-item .ensures))
+returns-4 c =
+    let at-item = c .before .before in
+    let at-if1 = at-item .before .before .before in
+    let at-head = at-if1 .before .before in
+    method-outside _ (head-told _ _ _ _ (at-head .before .before .method-head .ensures) (at-head .p .given .1))
+    (at-if1 .if1 .left) (omega arith) (omega arith) (met (c .enum-told .given .1) (at-item .code-item .ensures))
 
 returns-5 : tie.Need-returns-5
-returns-5 c = method-refused _ _ _ _ _ (head-refused _ _ _ _ (c .before .before .before .method-head .ensures) _ (c .before .r .given .1))
+returns-5 c = method-refused _ _ _ _ (head-refused _ _ _ _ (c .before .before .before .method-head .ensures) (c .before .r .given .1))
 
 returns-6 : tie.Need-returns-6
-returns-6 c = method-coded _ _ _ _ _ _ _ (head-told _ _ _ _ (c .before .before .before .before .before .before .before .before .before .before .method-head .ensures) _ _ _ (c .before .before .before .before .before .before .before .before .p .given .1)) (c .before .before .before .before .before .before .if1 .left) (omega arith) (omega arith) _ (met (c .before .units .given .1) (c .before .before .before .code-item .ensures))
+returns-6 c =
+    let at-units = c .before in
+    let at-item = at-units .before .before in
+    let at-if1 = at-item .before .before .before in
+    let at-head = at-if1 .before .before in
+    method-coded _ (head-told _ _ _ _ (at-head .before .before .method-head .ensures) (at-head .p .given .1))
+    (at-if1 .if1 .left) (omega arith) (omega arith) (met (at-units .units .given .1) (at-item .code-item .ensures))
 
 pub method-code-spec : {M : Type 1} → statement M
 method-code-spec =

@@ -23,7 +23,7 @@ add-sum c = search needs
 returns : tie.Need-returns
 returns c =
     let at-diff = c .before .before in
-    head-index _ _ _ _ _ (met (at-diff .diff .given .1) (at-diff .before .before .read-uleb128-fast .ensures)) (omega arith)
+    head-index _ _ _ (met (at-diff .diff .given .1) (at-diff .before .before .read-uleb128-fast .ensures)) (omega arith)
 
 add-p : tie.Need-add-p
 add-p c =
@@ -68,14 +68,15 @@ cast-t28 c = search needs
 returns-2 : tie.Need-returns-2
 returns-2 c =
     let at-r = c .before in
-    head-no1 _ _ _ _ (met (at-r .r .given .1) (at-r .before .before .read-uleb128-fast .ensures))
+    head-no1 _ _ _ (met (at-r .r .given .1) (at-r .before .before .read-uleb128-fast .ensures))
 
 returns-3 : tie.Need-returns-3
 returns-3 c =
     let at-r = c .before in
     let at-if = at-r .before .before .before in
     let at-diff = at-if .before .before in
-    head-no2 _ _ _ _ _ (met (at-diff .diff .given .1) (at-diff .before .before .read-uleb128-fast .ensures)) (omega arith) _ (met (at-r .r2 .given .1) (at-r .before .before .read-uleb128-fast2 .ensures))
+    head-no2 _ _ _ (met (at-diff .diff .given .1) (at-diff .before .before .read-uleb128-fast .ensures)) (omega arith)
+    (met (at-r .r2 .given .1) (at-r .before .before .read-uleb128-fast2 .ensures))
 
 returns-4 : tie.Need-returns-4
 returns-4 c =
@@ -83,7 +84,8 @@ returns-4 c =
     let at-flags = at-r .before .before .before .before in
     let at-if = at-flags .before .before .before in
     let at-diff = at-if .before .before in
-    head-no3 _ _ _ _ _ (met (at-diff .diff .given .1) (at-diff .before .before .read-uleb128-fast .ensures)) (omega arith) _ _ (met (at-flags .m .given .1) (at-flags .before .before .read-uleb128-fast2 .ensures)) _
+    head-no3 _ _ _ (met (at-diff .diff .given .1) (at-diff .before .before .read-uleb128-fast .ensures)) (omega arith)
+    (met (at-flags .m .given .1) (at-flags .before .before .read-uleb128-fast2 .ensures))
     (met (at-r .r3 .given .1) (at-r .before .before .read-uleb128-fast3 .ensures))
 
 returns-5 : tie.Need-returns-5
@@ -92,7 +94,8 @@ returns-5 c =
     let at-flags = at-off .before .before .before .before in
     let at-if = at-flags .before .before .before in
     let at-diff = at-if .before .before in
-    head-at _ _ _ _ _ (met (at-diff .diff .given .1) (at-diff .before .before .read-uleb128-fast .ensures)) (omega arith) _ _ (met (at-flags .m .given .1) (at-flags .before .before .read-uleb128-fast2 .ensures)) _ _
+    head-at _ _ _ (met (at-diff .diff .given .1) (at-diff .before .before .read-uleb128-fast .ensures)) (omega arith)
+    (met (at-flags .m .given .1) (at-flags .before .before .read-uleb128-fast2 .ensures))
     (met (at-off .off .given .1) (at-off .before .before .read-uleb128-fast3 .ensures))
 
 pub method-head-spec : {M : Type 1} → statement M

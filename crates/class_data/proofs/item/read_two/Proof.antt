@@ -39,19 +39,21 @@ add-q c =
 returns : tie.Need-returns
 returns c =
     let at-r = c .before in
-    two-no1 _ _ _ (met (at-r .r .given .1) (at-r .before .before .read-uleb128-fast .ensures))
+    two-no1 _ _ (met (at-r .r .given .1) (at-r .before .before .read-uleb128-fast .ensures))
 
 returns-2 : tie.Need-returns-2
 returns-2 c =
     let at-r = c .before in
     let at-a = at-r .before .before .before .before in
-    two-no2 _ _ _ _ (met (at-a .a .given .1) (at-a .before .before .read-uleb128-fast .ensures)) _ (met (at-r .r2 .given .1) (at-r .before .before .read-uleb128-fast2 .ensures))
+    two-no2 _ _ (met (at-a .a .given .1) (at-a .before .before .read-uleb128-fast .ensures))
+    (met (at-r .r2 .given .1) (at-r .before .before .read-uleb128-fast2 .ensures))
 
 returns-3 : tie.Need-returns-3
 returns-3 c =
     let at-b = c .before in
     let at-a = at-b .before .before .before .before in
-    two-at _ _ _ _ (met (at-a .a .given .1) (at-a .before .before .read-uleb128-fast .ensures)) _ _ (met (at-b .b .given .1) (at-b .before .before .read-uleb128-fast2 .ensures))
+    two-at _ _ (met (at-a .a .given .1) (at-a .before .before .read-uleb128-fast .ensures))
+    (met (at-b .b .given .1) (at-b .before .before .read-uleb128-fast2 .ensures))
 
 pub read-two-spec : {M : Type 1} → statement M
 read-two-spec =

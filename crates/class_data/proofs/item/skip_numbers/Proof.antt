@@ -39,7 +39,8 @@ loop-less c = search needs
 loop-again : tie.Need-loop-again Inv-loop μ-loop
 loop-again c =
     let at-m = c .before in
-    skipped-again _ _ _ _ _ (omega arith) (met (at-m .m .given .1) (at-m .before .before .read-uleb128-len .ensures)) (at-m .before .before .before .before .loop .inv)
+    let at-read = at-m .before .before in
+    skipped-again _ _ _ (omega arith) (met (at-m .m .given .1) (at-read .read-uleb128-len .ensures)) (at-read .before .before .loop .inv)
 
 enum-known-r : tie.Need-enum-known-r Inv-loop μ-loop
 enum-known-r c = search needs
@@ -47,10 +48,11 @@ enum-known-r c = search needs
 returns : tie.Need-returns Inv-loop μ-loop
 returns c =
     let at-r = c .before in
-    skipped-no _ _ _ _ _ (omega arith) (met (at-r .r .given .1) (at-r .before .before .read-uleb128-len .ensures)) (at-r .before .before .before .before .loop .inv)
+    let at-read = at-r .before .before in
+    skipped-no _ _ _ (omega arith) (met (at-r .r .given .1) (at-read .read-uleb128-len .ensures)) (at-read .before .before .loop .inv)
 
 returns-2 : tie.Need-returns-2 Inv-loop μ-loop
-returns-2 c = skipped-end _ _ _ _ (omega arith) (c .before .loop .inv)
+returns-2 c = skipped-end _ _ _ (omega arith) (c .before .loop .inv)
 
 pub skip-numbers-spec : {M : Type 1} → statement M
 skip-numbers-spec =

@@ -22,16 +22,16 @@ store-requires : tie.Need-store-requires
 store-requires c κs =
     let at-coded = c .before .before .before in
     let at-read = at-coded .before .before in
-    store-pre _ (at-read .before .before .before .before .pre) (coded-told _ _ _ _ _ (at-read .method-code .ensures) _ _ _ _ (at-coded .pos2 .given .1))
+    store-pre _ (at-read .before .before .before .before .pre) (coded-told _ _ _ _ _ (at-read .method-code .ensures) (at-coded .pos2 .given .1))
 
 add-t21 : tie.Need-add-t21
 add-t21 c = search needs
 
 returns : tie.Need-returns
-returns c = step-refused _ _ _ _ _ _ (refused-told _ _ _ _ _ (c .before .before .before .method-code .ensures) _ (c .before .r .given .1))
+returns c = step-refused _ _ _ _ _ (refused-told _ _ _ _ _ (c .before .before .before .method-code .ensures) (c .before .r .given .1))
 
 returns-2 : tie.Need-returns-2
-returns-2 c = step-bare _ _ _ _ _ _ (bare-told _ _ _ _ _ (c .before .before .before .method-code .ensures) _ _ (c .before .pos .given .1))
+returns-2 c = step-bare _ _ _ _ (bare-told _ _ _ _ _ (c .before .before .before .method-code .ensures) (c .before .pos .given .1))
 
 same-length : tie.Need-same-length
 same-length c = search needs
@@ -43,7 +43,7 @@ returns-3 : tie.Need-returns-3
 returns-3 c =
     let at-store = c .before .before .before .before .before in
     let at-coded = at-store .before .before .before .before in
-    step-coded _ _ _ _ _ _ (coded-told _ _ _ _ _ (at-coded .before .before .method-code .ensures) _ _ _ _ (at-coded .pos2 .given .1)) _ (at-store .store .ensures)
+    step-coded _ _ _ _ (coded-told _ _ _ _ _ (at-coded .before .before .method-code .ensures) (at-coded .pos2 .given .1)) (at-store .store .ensures)
 
 pub encoded-method-spec : {M : Type 1} → statement M
 encoded-method-spec =

@@ -36,12 +36,14 @@ loop-less c = search needs
 
 loop-again : tie.Need-loop-again Inv-loop μ-loop
 loop-again c =
-    let at-call = c .before .before .before .before .before .before .before in
+    let at-starts = c .before .before .before .before in
+    let at-triples = at-starts .before .before in
+    let at-call = at-triples .before in
     let at-test = at-call .before .before .before in
     let at-loop = at-test .before in
-    going-again (at-loop .loop .inv) (at-loop .before .before .before .before .pre) (at-test .loop-test .taken) _ _
-    (step-told _ _ _ _ _ _ (at-call .encoded-method .ensures) _ (c .before .next .given .1))
-    (record { triples = c .before .before .before .before .before .before .triples .given; starts = c .before .before .before .before .starts .given })
+    going-again (at-loop .loop .inv) (at-loop .before .before .before .before .pre) (at-test .loop-test .taken)
+    (step-told _ _ _ _ _ _ (at-call .encoded-method .ensures) (c .before .next .given .1))
+    (record { triples = at-triples .triples .given; starts = at-starts .starts .given })
 
 enum-known-r : tie.Need-enum-known-r Inv-loop μ-loop
 enum-known-r c = search needs
@@ -56,7 +58,7 @@ returns : tie.Need-returns Inv-loop μ-loop
 returns c =
     let at-call = c .before .before .before .before .before .before .before in
     refused-seen _ _ _
-    (walk-no _ _ _ _ _ _ _ (omega arith) (step-no _ _ _ _ _ _ (at-call .encoded-method .ensures) _ (c .before .r .given .1))
+    (walk-no _ _ _ _ _ (omega arith) (step-no _ _ _ _ _ _ (at-call .encoded-method .ensures) (c .before .r .given .1))
     (at-call .before .before .before .before .loop .inv .rest))
 
 same-length-3 : tie.Need-same-length-3 Inv-loop μ-loop
@@ -66,7 +68,7 @@ same-length-4 : tie.Need-same-length-4 Inv-loop μ-loop
 same-length-4 c = search needs
 
 returns-2 : tie.Need-returns-2 Inv-loop μ-loop
-returns-2 c = found-seen _ _ _ _ (walk-end _ _ _ _ _ _ (omega arith) (c .before .loop .inv .rest))
+returns-2 c = found-seen _ _ _ _ (walk-end _ _ _ _ _ (omega arith) (c .before .loop .inv .rest))
 
 pub encoded-methods-spec : {M : Type 1} → statement M
 encoded-methods-spec =

@@ -24,7 +24,12 @@ same-length : tie.Need-same-length
 same-length c = search needs
 
 returns : tie.Need-returns
-returns c = put-three (c .before .before .before .before .before .before .before .before .before .before .before .before .before .args .at) _ _ _ (c .before .before .before .before .before .before .before .before .before .before .before .before .before .args .triples .now) _ _ _ (c .before .before .before .before .before .before .before .before .before .before .put .ensures) (c .before .before .before .before .before .before .put2 .ensures) (c .before .before .put3 .ensures)
+returns c =
+    let at-put3 = c .before .before in
+    let at-put2 = at-put3 .before .before .before .before in
+    let at-put = at-put2 .before .before .before .before in
+    let a = at-put .before .before .before .args in
+    put-three (a .at) _ _ _ (a .triples .now) (at-put .put .ensures) (at-put2 .put2 .ensures) (at-put3 .put3 .ensures)
 
 pub put-three-spec : {M : Type 1} → statement M
 put-three-spec =

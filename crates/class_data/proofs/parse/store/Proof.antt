@@ -39,7 +39,8 @@ returns : tie.Need-returns
 returns c =
     let at-three = c .before .before .before .before .before .before in
     let a = at-three .before .before .before .before .args in
-    store-all (kept (a .k) (codeWords (a .triples .now) (a .starts .now))) _ _ _ _ (at-three .put-three .ensures) (c .before .before .set-start .ensures)
+    store-all (kept (a .k) (codeWords (a .triples .now) (a .starts .now))) _ _ _ _ (at-three .put-three .ensures)
+    (c .before .before .set-start .ensures)
 
 pub store-spec : {M : Type 1} → statement M
 store-spec =

@@ -1,7 +1,6 @@
 -- The table and the opcode decide, one after the other.
 -- Assumes nothing.
 use mathlib.Core.Path.{sym, _∙_}
-use native.Mathlib.Omega.{arith}
 use Rattle.kinds.specs.Kinds.{meant}
 use Rattle.code_item_scan.proofs.Starts.{even-hit-unwanted, even-hit-other, even-hit-wanted}
 use borrow.Author.Needs.{needs}

@@ -6,8 +6,9 @@ use mathlib.Core.List.{[]}
 use Rattle.dalvik.specs.Instructions.Kind.{strings}
 use Rattle.code_item_scan.specs.Scan.{sought}
 use Rattle.code_item_scan.specs.Next.{indexSet, listed}
-use Rattle.code_item_scan.specs.Steps.{marked, Came}
-use Rattle.code_item_scan.proofs.Starts.{finds-hit, finds-nothing, came-on, came-found, came-end, came-skipped, string-miss, string-found}
+use Rattle.code_item_scan.specs.Steps.{marked}
+use Rattle.code_item_scan.proofs.Starts.{Came, finds-hit, finds-nothing, came-on, came-found, came-end, came-skipped, string-miss}
+use Rattle.code_item_scan.proofs.Starts.{string-found}
 use borrow.Author.Needs.{needs}
 use native.Mathlib.Omega.{arith}
 use Rattle.code_item_scan.proofs.hits.next_string.Statement.{statement}

@@ -26,7 +26,9 @@ returns-2 : tie.Need-returns-2
 returns-2 c = unknown refl (cc) (sym (c .before .before .kind-of .ensures) ∙ ap kindRead (c .enum-told .given .1))
 
 returns-3 : tie.Need-returns-3
-returns-3 c = backward (c .before .before .k .given .0 .0) refl (cc) (sym (c .before .before .before .before .kind-of .ensures) ∙ ap kindRead (c .before .before .k .given .1)) (c .if2 .taken)
+returns-3 c =
+    backward (c .before .before .k .given .0 .0) refl (cc)
+    (sym (c .before .before .before .before .kind-of .ensures) ∙ ap kindRead (c .before .before .k .given .1)) (c .if2 .taken)
 
 returns-4 : tie.Need-returns-4
 returns-4 c =

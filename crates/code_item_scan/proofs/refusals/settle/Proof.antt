@@ -1,7 +1,6 @@
 -- The test of both lengths decides: hits that fit stay, else both slices are cleared.
 -- Assumes nothing.
 use mathlib.Core.Logic.{⊎-elim, inl, inr}
-use Rattle.code_item_scan.specs.Answers.{hitWords}
 use Rattle.code_item_scan.proofs.Whole.{settle-kept, settle-cleared}
 use borrow.Author.Needs.{needs}
 use Rattle.code_item_scan.proofs.refusals.settle.Statement.{statement}

@@ -8,6 +8,7 @@ use mathlib.Core.Logic.{⊎-elim}
 use lib.ListN.{length-replicate, getD-replicate, length-set}
 use lib.Seq.{take-all}
 use Rattle.code_item_scan.specs.Scan.{isIn}
+use Rattle.code_item_scan.specs.Next.{indexCount}
 use Rattle.code_item_scan.specs.Steps.{bit}
 use Rattle.code_item_scan.proofs.Sets.{table-marked, table-passed}
 use borrow.Author.Needs.{needs}
@@ -16,13 +17,18 @@ use Rattle.code_item_scan.proofs.wanted.table_of.Statement.{statement}
 use Rattle.code_item_scan.proofs.wanted.table_of.Tie as tie
 
 abbrev Inv-loop : tie.InvT-loop
-Inv-loop wanted table₀ i₀ table i = (length table ≡ 65536) × (i ≤ length wanted) × ((y : ℕ) → y < 65536 → getD table y 0 ≡ bit (isIn y (take i wanted)))
+Inv-loop wanted table₀ i₀ table i =
+    (length table ≡ indexCount) × (i ≤ length wanted) × ((y : ℕ) → y < indexCount → getD table y 0 ≡ bit (isIn y (take i wanted)))
 
 abbrev μ-loop : tie.MeasureT-loop
 μ-loop wanted table₀ i₀ table i = length wanted - i
 
 loop-holds : tie.Need-loop-holds Inv-loop μ-loop
-loop-holds c = (ap length (c .pre) ∙ length-replicate {A = ℕ} 65536 0, search needs, λ y h. ap (λ (l : List ℕ). getD l y 0) (c .pre) ∙ getD-replicate {A = ℕ} 65536 y 0 0 h)
+loop-holds c = (
+  ap length (c .pre) ∙ length-replicate {A = ℕ} indexCount 0,
+  search needs,
+  λ y h. ap (λ (l : List ℕ). getD l y 0) (c .pre) ∙ getD-replicate {A = ℕ} indexCount y 0 0 h,
+)
 
 mul-x : tie.Need-mul-x Inv-loop μ-loop
 mul-x c = search needs
@@ -30,8 +36,8 @@ mul-x c = search needs
 shared-slice-read-x : tie.Need-shared-slice-read-x Inv-loop μ-loop
 shared-slice-read-x c = search needs
 
-cast-table : tie.Need-cast-table Inv-loop μ-loop
-cast-table c = search needs
+cast-x : tie.Need-cast-x Inv-loop μ-loop
+cast-x c = omega (arith, c .shared-slice-known .given (c .before .before .loop .i))
 
 element-write-table : tie.Need-element-write-table Inv-loop μ-loop
 element-write-table c = search needs
@@ -61,7 +67,10 @@ loop-again c =
     (c .if1 .came)
 
 returns : tie.Need-returns Inv-loop μ-loop
-returns c = record { long = c .before .loop .inv .0; at = λ y h. c .before .loop .inv .2 y h ∙ ap (λ (l : List ℕ). bit (isIn y l)) (take-all _ _ (c .loop-test .left)) }
+returns c = record {
+  long = c .before .loop .inv .0;
+  at = λ y h. c .before .loop .inv .2 y h ∙ ap (λ (l : List ℕ). bit (isIn y l)) (take-all _ _ (c .loop-test .left));
+}
 
 pub table-of-spec : {M : Type 1} → statement M
 table-of-spec =
@@ -72,7 +81,7 @@ table-of-spec =
     loop-holds
     mul-x
     shared-slice-read-x
-    cast-table
+    cast-x
     element-write-table
     add-i
     loop-less

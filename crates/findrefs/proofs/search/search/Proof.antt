@@ -20,8 +20,8 @@ enum-known-r c = search needs
 enum-known-n : tie.Need-enum-known-n
 enum-known-n c = search needs
 
-first-words-requires : tie.Need-first-words-requires
-first-words-requires c κs = search needs
+first-requires : tie.Need-first-requires
+first-requires c κs = search needs
 
 locate-hits-requires : tie.Need-locate-hits-requires
 locate-hits-requires c κs =
@@ -45,7 +45,8 @@ returns : tie.Need-returns
 returns c =
     let scanned = c .before .before .before .before .before .before .before in
     let cleared = scanned .before .before .before .before .before in
-    search-refused _ _ _ _ _ _ (c .before .r .given .1) (scanned .scan .ensures) (cleared .before .before .before .before .clear .ensures) (cleared .clear2 .ensures)
+    search-refused _ _ _ _ _ _ (c .before .r .given .1) (scanned .scan .ensures)
+    (cleared .before .before .before .before .clear .ensures) (cleared .clear2 .ensures)
 
 same-length-5 : tie.Need-same-length-5
 same-length-5 c = search needs
@@ -55,9 +56,10 @@ same-length-6 c = search needs
 
 same-length-7 : tie.Need-same-length-7
 same-length-7 c =
-    let located = c .before .before .before .before .before .before .before .before in
-    let cleared = located .before .before .before .before .before .before .before .before .before .before .before .before .before .before .before .before .before .before .before .before .before .before in
-    omega (arith, c .before .before .before .further2 .given, cleared .further .given)
+    let left = c .before .before .before in
+    let counted = left .before .before .before .before .before .before .before .before .before .before .before .before .before in
+    let cleared = counted .before .before .before .before .before .before .before .before .before .before .before .before .before .before in
+    omega (arith, left .further2 .given, cleared .further .given)
 
 same-length-8 : tie.Need-same-length-8
 same-length-8 c = search needs
@@ -69,7 +71,7 @@ returns-2 c =
     let counted = passed .before .before .before in
     let scanned = counted .before .before .before .before .before .before in
     let cleared = scanned .before .before .before .before .before .before .before .before in
-    search-located _ _ _ _ _ _ _ (counted .n .given .1) (scanned .scan .ensures) _ _ _ _ (passed .first-words .ensures)
+    search-located _ _ _ _ _ _ _ (counted .n .given .1) (scanned .scan .ensures) _ _ _ _ (passed .first .ensures)
     (omega arith) (omega arith) (omega (arith, cleared .further .given)) (omega arith) (located .locate-hits .ensures)
 
 pub search-spec : {M : Type 1} → statement M
@@ -81,7 +83,7 @@ search-spec =
     scan-requires
     enum-known-r
     enum-known-n
-    first-words-requires
+    first-requires
     locate-hits-requires
     same-length
     same-length-2

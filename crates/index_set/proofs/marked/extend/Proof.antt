@@ -3,19 +3,19 @@
 use borrow.Author.Needs.{needs}
 use Prim.Native.Nat.{_-_}
 use lib.ListN.{length}
+use Rattle.index_set.specs.Marked.{setWords}
 use Rattle.index_set.proofs.Walking.{Walking, walk-start, walk-next, walk-full, walk-end}
-use native.Mathlib.Omega.{arith}
 use Rattle.index_set.proofs.marked.extend.Statement.{statement}
 use Rattle.index_set.proofs.marked.extend.Tie as tie
 
 abbrev Inv-loop : tie.InvT-loop
-Inv-loop marks₀ out₀ n more held₀ i₀ marks out held i = Walking marks₀ out₀ n more marks out held i
+Inv-loop marks₀ out₀ n more held₀ i₀ marks out held i = Walking (setWords marks₀ out₀) n more (setWords marks out) held i
 
 abbrev μ-loop : tie.MeasureT-loop
 μ-loop marks₀ out₀ n more held₀ i₀ marks out held i = length more - i
 
 loop-holds : tie.Need-loop-holds Inv-loop μ-loop
-loop-holds c = walk-start _ _ _ _
+loop-holds c = walk-start _ _ _
 
 mul-add : tie.Need-mul-add Inv-loop μ-loop
 mul-add c = search needs

@@ -24,7 +24,9 @@ enum-told : tie.Need-enum-told
 enum-told c = search needs
 
 returns-2 : tie.Need-returns-2
-returns-2 c = step-unknown _ _ (c .before .before .before .before .if1 .left) (length-nothing _ (met (c .enum-told .given .1) (c .before .before .oplen .ensures)))
+returns-2 c =
+    step-unknown _ _ (c .before .before .before .before .if1 .left)
+    (length-nothing _ (met (c .enum-told .given .1) (c .before .before .oplen .ensures)))
 
 mul-t4 : tie.Need-mul-t4
 mul-t4 c = omega (arith, length-units _ _ (met (c .before .n .given .1) (c .before .before .before .oplen .ensures)))

@@ -1,6 +1,7 @@
 -- `matches_name::matches_name` meets its contract: between two places of the first letter no name stands.
 -- Assumes nothing.
-use Rattle.name_filter.proofs.HasName.{has-empty-of, decided-yes, decided-no, has-short, has-at, has-none, room-at, search-start, search-next, search-less}
+use Rattle.word_set.proofs.Decides.{decided-yes, decided-no}
+use Rattle.name_filter.proofs.HasName.{has-empty-of, has-short, has-at, has-none, room-at, search-start, search-next, search-less}
 use Rattle.name_filter.specs.HasName.{lowerCase}
 use Rattle.memchr.specs.Occurs.{Stands}
 use mathlib.Core.List.{map}
@@ -19,7 +20,8 @@ returns : tie.Need-returns Inv-loop μ-loop
 returns c = decided-yes (has-empty-of (c .before .before .before .args .text .now) (c .before .before .before .args .query .now) (c .if1 .taken))
 
 returns-2 : tie.Need-returns-2 Inv-loop μ-loop
-returns-2 c = decided-no (has-short (c .before .before .before .before .args .text .now) (c .before .before .before .before .args .query .now) (c .if2 .taken))
+returns-2 c =
+    decided-no (has-short (c .before .before .before .before .args .text .now) (c .before .before .before .before .args .query .now) (c .if2 .taken))
 
 sub-end : tie.Need-sub-end Inv-loop μ-loop
 sub-end c = search needs
@@ -44,7 +46,8 @@ loop-holds c =
     let at-if1 = c .before .before .before .before .before in
     let start = at-if1 .before .before .before in
     let a = start .args in
-    search-start (a .text .now) (a .query .now) _ _ (at-if1 .if1 .left) (c .before .before .lower .ensures) (c .before .upper .ensures) _ (c .memchr2 .ensures)
+    search-start (a .text .now) (a .query .now) _ _ (at-if1 .if1 .left) (c .before .before .lower .ensures) (c .before .upper .ensures) _
+    (c .memchr2 .ensures)
 
 stands-at-requires : tie.Need-stands-at-requires Inv-loop μ-loop
 stands-at-requires c κs =
@@ -57,7 +60,8 @@ returns-3 c =
     let at-if2 = c .before .before .before .before .before .before .before .before in
     let start = at-if2 .before .before .before .before in
     let a = start .args in
-    decided-yes (has-at (a .text .now) (a .query .now) (c .before .before .before .loop .at) (at-if2 .if2 .left) (c .before .before .loop-test .taken) (c .before .stands-at .ensures .yes (c .if3 .taken)))
+    decided-yes (has-at (a .text .now) (a .query .now) (c .before .before .before .loop .at) (at-if2 .if2 .left)
+    (c .before .before .loop-test .taken) (c .before .stands-at .ensures .yes (c .if3 .taken)))
 
 add-memchr2 : tie.Need-add-memchr2 Inv-loop μ-loop
 add-memchr2 c = search needs
@@ -73,7 +77,8 @@ loop-less c =
     let at-if1 = at-if2 .before in
     let start = at-if1 .before .before .before in
     let a = start .args in
-    search-less (a .text .now) (a .query .now) _ _ (at-if1 .if1 .left) (at-lower .lower .ensures) (at-upper .upper .ensures) (c .before .before .before .before .loop .at) _ (at-if2 .if2 .left) (c .before .before .before .loop-test .taken) (c .memchr22 .ensures)
+    search-less (a .text .now) (a .query .now) _ _ (at-if1 .if1 .left) (at-lower .lower .ensures) (at-upper .upper .ensures)
+    (c .before .before .before .before .loop .at) _ (at-if2 .if2 .left) (c .before .before .before .loop-test .taken) (c .memchr22 .ensures)
 
 loop-again : tie.Need-loop-again Inv-loop μ-loop
 loop-again c =
@@ -83,7 +88,8 @@ loop-again c =
     let start = at-if1 .before .before .before in
     let a = start .args in
     let k = c .before .before .before .before .loop in
-    search-next (a .text .now) (a .query .now) _ _ (at-if1 .if1 .left) (at-lower .lower .ensures) (at-upper .upper .ensures) (k .at) _ (c .memchr22 .ensures) (k .inv .1) (c .before .before .stands-at .ensures .no (c .before .if3 .left))
+    search-next (a .text .now) (a .query .now) _ _ (at-if1 .if1 .left) (at-lower .lower .ensures) (at-upper .upper .ensures) (k .at) _
+    (c .memchr22 .ensures) (k .inv .1) (c .before .before .stands-at .ensures .no (c .before .if3 .left))
 
 returns-4 : tie.Need-returns-4 Inv-loop μ-loop
 returns-4 c =

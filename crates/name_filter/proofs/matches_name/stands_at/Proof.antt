@@ -1,6 +1,7 @@
 -- `matches_name::stands_at` meets its contract: what was passed is the same byte by byte, and one other byte is enough.
 -- Assumes nothing.
-use Rattle.name_filter.proofs.HasName.{same-upto, other-name, decided-yes, decided-no}
+use Rattle.word_set.proofs.Decides.{decided-yes, decided-no}
+use Rattle.name_filter.proofs.HasName.{same-upto, other-name}
 use Rattle.name_filter.specs.HasName.{lowerCase}
 use lib.ListN.{length, getD}
 use borrow.Author.Count.{below-more}
@@ -41,7 +42,8 @@ returns c =
     let at-loop = at-loop-test .before in
     let start = at-loop .before .before .before in
     let a = start .args in
-    decided-no (other-name (a .text .now) (a .query .now) (a .at) (at-loop .loop .k) (at-loop-test .loop-test .taken) (λ f. c .if1 .taken (c .before .before .before .lower .ensures ∙ f ∙ sym (c .before .lower2 .ensures))))
+    decided-no (other-name (a .text .now) (a .query .now) (a .at) (at-loop .loop .k) (at-loop-test .loop-test .taken)
+    (λ f. c .if1 .taken (c .before .before .before .lower .ensures ∙ f ∙ sym (c .before .lower2 .ensures))))
 
 add-k : tie.Need-add-k Inv-loop μ-loop
 add-k c = search needs
@@ -51,13 +53,17 @@ loop-less c = search needs
 
 loop-again : tie.Need-loop-again Inv-loop μ-loop
 loop-again c =
-    let at-loop = c .before .before .before .before .before .before in
-    (search needs, below-more _ _ (at-loop .loop .inv .1) (sym (c .before .before .before .lower .ensures) ∙ c .if1 .left ∙ c .before .lower2 .ensures))
+    let at-loop = c .before .before .before .before .before .before in (
+      search needs,
+      below-more _ _ (at-loop .loop .inv .1)
+          (sym (c .before .before .before .lower .ensures) ∙ c .if1 .left ∙ c .before .lower2 .ensures),
+    )
 
 returns-2 : tie.Need-returns-2 Inv-loop μ-loop
 returns-2 c =
     let a = c .before .before .before .before .args in
-    decided-yes (same-upto (a .text .now) (a .query .now) (a .at) (c .before .loop .k) (c .before .before .before .before .pre) (c .loop-test .left) (c .before .loop .inv .1))
+    decided-yes (same-upto (a .text .now) (a .query .now) (a .at) (c .before .loop .k) (c .before .before .before .before .pre) (c .loop-test .left)
+    (c .before .loop .inv .1))
 
 pub stands-at-spec : {M : Type 1} → statement M
 stands-at-spec =

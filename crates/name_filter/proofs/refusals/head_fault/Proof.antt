@@ -37,13 +37,15 @@ add-if3 c = search needs
 returns-3 : tie.Need-returns-3
 returns-3 c =
     let at-too-large = c .before .before .before .before .before in
-    head-table _ _ (met (at-too-large .too-large .ensures) (c .before .before .before .before .if1 .left)) (omega (arith, c .before .u32-at2 .ensures, c .before .before .u32-at .ensures, c .if3 .taken))
+    head-table _ _ (met (at-too-large .too-large .ensures) (c .before .before .before .before .if1 .left))
+    (omega (arith, c .before .u32-at2 .ensures, c .before .before .u32-at .ensures, c .if3 .taken))
 
 returns-4 : tie.Need-returns-4
 returns-4 c =
     let at-if1 = c .before .before .before .before .before in
     let at-too-large = at-if1 .before in
-    head-long _ _ (met (at-too-large .too-large .ensures) (at-if1 .if1 .left)) (c .before .before .before .before .if2 .left) (omega (arith, c .before .before .u32-at2 .ensures, c .before .before .before .u32-at .ensures, c .before .if3 .left)) (c .if4 .taken)
+    head-long _ _ (met (at-too-large .too-large .ensures) (at-if1 .if1 .left)) (c .before .before .before .before .if2 .left)
+    (omega (arith, c .before .before .u32-at2 .ensures, c .before .before .before .u32-at .ensures, c .before .if3 .left)) (c .if4 .taken)
 
 is-ascii-requires : tie.Need-is-ascii-requires
 is-ascii-requires c κs = search needs
@@ -54,7 +56,9 @@ returns-5 c =
     let at-if2 = at-u32-at .before in
     let at-if1 = at-if2 .before in
     let at-too-large = at-if1 .before in
-    head-none _ _ (met (at-too-large .too-large .ensures) (at-if1 .if1 .left)) (at-if2 .if2 .left) (omega (arith, c .before .before .before .before .u32-at2 .ensures, at-u32-at .u32-at .ensures, c .before .before .before .if3 .left)) (c .before .before .if4 .left) (met (c .before .is-ascii .ensures) (c .if5 .taken))
+    head-none _ _ (met (at-too-large .too-large .ensures) (at-if1 .if1 .left)) (at-if2 .if2 .left)
+    (omega (arith, c .before .before .before .before .u32-at2 .ensures, at-u32-at .u32-at .ensures, c .before .before .before .if3 .left))
+    (c .before .before .if4 .left) (met (c .before .is-ascii .ensures) (c .if5 .taken))
 
 returns-6 : tie.Need-returns-6
 returns-6 c =
@@ -62,7 +66,9 @@ returns-6 c =
     let at-if2 = at-u32-at .before in
     let at-if1 = at-if2 .before in
     let at-too-large = at-if1 .before in
-    head-query _ _ (met (at-too-large .too-large .ensures) (at-if1 .if1 .left)) (at-if2 .if2 .left) (omega (arith, c .before .before .before .before .u32-at2 .ensures, at-u32-at .u32-at .ensures, c .before .before .before .if3 .left)) (c .before .before .if4 .left) (met (c .before .is-ascii .ensures) (c .if5 .left))
+    head-query _ _ (met (at-too-large .too-large .ensures) (at-if1 .if1 .left)) (at-if2 .if2 .left)
+    (omega (arith, c .before .before .before .before .u32-at2 .ensures, at-u32-at .u32-at .ensures, c .before .before .before .if3 .left))
+    (c .before .before .if4 .left) (met (c .before .is-ascii .ensures) (c .if5 .left))
 
 pub head-fault-spec : {M : Type 1} → statement M
 head-fault-spec =

@@ -22,10 +22,13 @@ enum-known-why : tie.Need-enum-known-why
 enum-known-why c = search needs
 
 returns : tie.Need-returns
-returns c = judged-at (met (ap says (c .before .before .start .given .1)) (c .before .before .before .before .string-data .ensures)) (c .judge-text .ensures)
+returns c =
+    judged-at (met (ap says (c .before .before .start .given .1)) (c .before .before .before .before .string-data .ensures)) (c .judge-text .ensures)
 
 returns-2 : tie.Need-returns-2
-returns-2 c = judged-refused _ _ _ (c .before .why .given .0 .0) (text-refused _ _ _ (c .before .why .given .0 .0) (met (ap says (c .before .why .given .1)) (c .before .before .before .string-data .ensures)))
+returns-2 c =
+    judged-refused _ _ _ (c .before .why .given .0 .0)
+    (text-refused _ _ _ (c .before .why .given .0 .0) (met (ap says (c .before .why .given .1)) (c .before .before .before .string-data .ensures)))
 
 pub judge-spec : {M : Type 1} → statement M
 judge-spec =

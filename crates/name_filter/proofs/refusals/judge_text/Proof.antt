@@ -42,13 +42,15 @@ returns-2 : tie.Need-returns-2
 returns-2 c =
     let start = c .before .before .before .before .before .before .before .before in
     let a = start .args in
-    judged-ascii (a .file .now) (a .query .now) (a .start) (a .len) _ (stretch-found (a .file .now) (a .start) (a .len) _ refl) _ (met (c .before .before .before .is-ascii .ensures) (c .before .before .if2 .taken)) (c .matches-name .ensures)
+    judged-ascii (a .file .now) (a .query .now) (a .start) (a .len) _ (stretch-found (a .file .now) (a .start) (a .len) _ refl) _
+    (met (c .before .before .before .is-ascii .ensures) (c .before .before .if2 .taken)) (c .matches-name .ensures)
 
 returns-3 : tie.Need-returns-3
 returns-3 c =
     let start = c .before .before .before .before .before .before in
     let a = start .args in
-    judged-other (a .file .now) (a .query .now) (a .start) (a .len) _ (stretch-found (a .file .now) (a .start) (a .len) _ refl) (c .before .before .before .if1 .left) (met (c .before .is-ascii .ensures) (c .if2 .left))
+    judged-other (a .file .now) (a .query .now) (a .start) (a .len) _ (stretch-found (a .file .now) (a .start) (a .len) _ refl)
+    (c .before .before .before .if1 .left) (met (c .before .is-ascii .ensures) (c .if2 .left))
 
 pub judge-text-spec : {M : Type 1} → statement M
 judge-text-spec =

@@ -29,7 +29,8 @@ slice-reshare-prefix-entry c =
 slice-aggregate-entry : tie.Need-slice-aggregate-entry
 slice-aggregate-entry c =
     let at-list-slot = c .before .before .before .before .before .before in
-    sym (length-take-le _ _ (done-fits _ _ (at-list-slot .list-slot .last .1 .1 .0) _ (gives-as (c .before .before .n .given .1) (at-list-slot .list-slot .ensures))))
+    sym (length-take-le _ _
+    (done-fits _ _ (at-list-slot .list-slot .last .1 .1 .0) _ (gives-as (c .before .before .n .given .1) (at-list-slot .list-slot .ensures))))
 
 entry-requires : tie.Need-entry-requires
 entry-requires c κs = search needs
@@ -47,7 +48,8 @@ returns c =
     let at-list-slot = at-why .before .before .before .before in
     let at-start = at-list-slot .before .before .before .before .before in
     let a = at-start .args in
-    line-refused _ _ (at-list-slot .list-slot .last .1 .1 .0) (a .off) (a .idx) _ _ (a .text .now) _ (gives-as (at-why .why .given .1) (at-list-slot .list-slot .ensures)) (c .before .before .clear-bytes .ensures)
+    line-refused _ _ (at-list-slot .list-slot .last .1 .1 .0) (a .off) (a .idx) _ _ (a .text .now) _
+    (gives-as (at-why .why .given .1) (at-list-slot .list-slot .ensures)) (c .before .before .clear-bytes .ensures)
 
 same-length-3 : tie.Need-same-length-3
 same-length-3 c = search needs
@@ -62,7 +64,8 @@ returns-2 c =
     let at-list-slot = at-n .before .before .before .before in
     let at-start = at-list-slot .before .before .before .before .before in
     let a = at-start .args in
-    line-done _ _ (at-list-slot .list-slot .last .1 .1 .0) (a .off) (a .idx) _ _ _ (a .text .now) _ (gives-as (at-n .n .given .1) (at-list-slot .list-slot .ensures)) (c .before .before .entry .ensures)
+    line-done _ _ (at-list-slot .list-slot .last .1 .1 .0) (a .off) (a .idx) _ _ _ (a .text .now) _
+    (gives-as (at-n .n .given .1) (at-list-slot .list-slot .ensures)) (c .before .before .entry .ensures)
 
 pub line-spec : {M : Type 1} → statement M
 line-spec =

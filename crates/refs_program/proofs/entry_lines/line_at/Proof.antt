@@ -26,7 +26,8 @@ returns : tie.Need-returns
 returns c =
     let at-if1 = c .before .before .before .before .before .before .before in
     let at-alike = at-if1 .before in
-    line-refusal _ LentTable _ _ _ (line-unlike _ _ _ _ (unlike (at-if1 .if1 .taken) (at-alike .alike .ensures))) (c .before .before .before .before .refuse .ensures)
+    line-refusal _ LentTable _ _ _ (line-unlike _ _ _ _ (unlike (at-if1 .if1 .taken) (at-alike .alike .ensures)))
+    (c .before .before .before .before .refuse .ensures)
 
 refuse-requires-2 : tie.Need-refuse-requires-2
 refuse-requires-2 c κs = search needs
@@ -42,7 +43,8 @@ returns-2 c =
     let at-if2 = c .before .before .before .before .before .before .before in
     let at-if1 = at-if2 .before in
     let at-alike = at-if1 .before in
-    line-refusal _ LentTable _ _ _ (line-past _ _ _ _ (likewise (at-if1 .if1 .left) (at-alike .alike .ensures)) (at-if2 .if2 .taken)) (c .before .before .before .before .refuse2 .ensures)
+    line-refusal _ LentTable _ _ _ (line-past _ _ _ _ (likewise (at-if1 .if1 .left) (at-alike .alike .ensures)) (at-if2 .if2 .taken))
+    (c .before .before .before .before .refuse2 .ensures)
 
 mul-line : tie.Need-mul-line
 mul-line c = search needs
@@ -54,7 +56,8 @@ mul-line-2 : tie.Need-mul-line-2
 mul-line-2 c = search needs
 
 shared-slice-read-line-2 : tie.Need-shared-slice-read-line-2
-shared-slice-read-line-2 c = omega (arith, alike-marks _ _ _ (likewise (c .before .before .before .if1 .left) (c .before .before .before .before .alike .ensures)))
+shared-slice-read-line-2 c =
+    omega (arith, alike-marks _ _ _ (likewise (c .before .before .before .if1 .left) (c .before .before .before .before .alike .ensures)))
 
 mul-line-3 : tie.Need-mul-line-3
 mul-line-3 c = search needs
@@ -78,13 +81,21 @@ same-length-6 c = search needs
 
 returns-3 : tie.Need-returns-3
 returns-3 c =
-    let at-line = c .before .before .before .before .before .before .before .before .line in
-    let at-if1 = c .before .before .before .before .before .before .before .before .before .before .before .before .before .before .before .if1 in
-    let at-alike = c .before .before .before .before .before .before .before .before .before .before .before .before .before .before .before .before .alike in
-    let a = c .before .before .before .before .before .before .before .before .before .before .before .before .before .before .before .before .before .before .before .before .before .before .before .args in
+    let at-line = c .before .before .before .before .before .before .before .before in
+    let at-if2 = at-line .before .before .before .before .before .before in
+    let at-if1 = at-if2 .before in
+    let at-alike = at-if1 .before in
+    let at-start = at-alike .before .before .before .before .before .before .before in
+    let a = at-start .args in
+    let E = entries (a .offs .now) (a .marks .now) (a .answers .now) (a .shares .now) in
     record {
-      line = rw (line-held (entries (a .offs .now) (a .marks .now) (a .answers .now) (a .shares .now)) (length (a .mids .now)) (length (a .text .now)) (a .i) (likewise (at-if1 .left) (at-alike .ensures)) (omega arith)) (at-line .ensures);
-      cleared = cleared-again (at-line .last .1 .1 .1 .1 .0) (a .mids .now) _ (omega arith) (c .before .before .clear .ensures);
+      line =
+          rw (line-held E (length (a .mids .now)) (length (a .text .now)) (a .i) (likewise (at-if1 .if1 .left) (at-alike .alike .ensures))
+          (omega (arith, at-if2 .if2 .left)))
+          (at-line .line .ensures);
+      cleared =
+          cleared-again (at-line .line .last .1 .1 .1 .1 .0) (a .mids .now) _ (omega (arith, at-line .line .kept .1 .1 .1 .1 .0))
+          (c .before .before .clear .ensures);
     }
 
 pub line-at-spec : {M : Type 1} → statement M

@@ -2,7 +2,8 @@
 use Rattle.refusal.specs.declared.Refusal.the-variants.{LentTable}
 use Rattle.refs_program.specs.Line.{lineAt, firstRefused}
 use Rattle.refs_program.specs.Steps.{entries, lineWords}
-use Rattle.refs_program.proofs.LineLaws.{unlike, likewise, gives-as, gives-room, try-start, try-on, try-refused, try-done, tried-unlike, tried-alike, tries-refused, tries-done}
+use Rattle.refs_program.proofs.LineLaws.{unlike, likewise, gives-as, gives-room, try-start, try-on, try-refused, try-done, tried-unlike}
+use Rattle.refs_program.proofs.LineLaws.{tried-alike, tries-refused, tries-done}
 use mathlib.Core.Path.{_≡_, refl, sym, _∙_}
 use Prim.Native.Nat.{_≤_, _-_}
 use lib.ListN.{length}
@@ -13,7 +14,10 @@ use Rattle.refs_program.proofs.entry_lines.try_lines.Tie as tie
 use Rattle.words.proofs.clear.Reads as clear-reads′
 
 abbrev Inv-loop : tie.InvT-loop
-Inv-loop offs marks answers shares mids₀ text₀ i₀ mids text i = (i ≤ length offs) × (length mids ≡ length mids₀) × (length text ≡ length text₀) × (firstRefused (lineAt (entries offs marks answers shares) (length mids₀) (length text₀)) (length offs - i) i ≡ firstRefused (lineAt (entries offs marks answers shares) (length mids₀) (length text₀)) (length offs) 0)
+Inv-loop offs marks answers shares mids₀ text₀ i₀ mids text i =
+    let f = lineAt (entries offs marks answers shares) (length mids₀) (length text₀) in
+    (i ≤ length offs) × (length mids ≡ length mids₀) × (length text ≡ length text₀)
+    × (firstRefused f (length offs - i) i ≡ firstRefused f (length offs) 0)
 
 abbrev μ-loop : tie.MeasureT-loop
 μ-loop offs marks answers shares mids₀ text₀ i₀ mids text i = length offs - i
@@ -34,7 +38,8 @@ returns : tie.Need-returns Inv-loop μ-loop
 returns c =
     let at-if1 = c .before .before .before .before .before .before .before in
     let at-alike = at-if1 .before in
-    tries-refused LentTable _ _ _ _ (sym (tried-unlike _ _ _ (unlike (at-if1 .if1 .taken) (at-alike .alike .ensures)))) refl refl (c .before .before .before .before .refuse .ensures)
+    tries-refused LentTable (sym (tried-unlike _ _ _ (unlike (at-if1 .if1 .taken) (at-alike .alike .ensures)))) refl refl
+    (c .before .before .before .before .refuse .ensures)
 
 loop-holds : tie.Need-loop-holds Inv-loop μ-loop
 loop-holds c = (omega arith, refl, refl, try-start _ _)
@@ -56,18 +61,24 @@ same-length-4 c = search needs
 
 returns-2 : tie.Need-returns-2 Inv-loop μ-loop
 returns-2 c =
-    let at-why = c .before .before .before .before .before .before .before .before .why in
-    let at-line-at = c .before .before .before .before .before .before .before .before .before .before .before .before .before .before .line-at in
-    let at-if1 = c .before .before .before .before .before .before .before .before .before .before .before .before .before .before .before .before .before .before .before .if1 in
-    let at-alike = c .before .before .before .before .before .before .before .before .before .before .before .before .before .before .before .before .before .before .before .before .alike in
-    let l = c .before .before .before .before .before .before .before .before .before .before .before .before .before .before .before .before .before .before .loop in
-    let a = c .before .before .before .before .before .before .before .before .before .before .before .before .before .before .before .before .before .before .before .before .before .before .before .before .before .before .before .args in
+    let at-why = c .before .before .before .before .before .before .before .before in
+    let at-line-at = at-why .before .before .before .before .before .before in
+    let at-loop = at-line-at .before .before .before .before in
+    let at-if1 = at-loop .before in
+    let at-alike = at-if1 .before in
+    let at-start = at-alike .before .before .before .before .before .before .before in
+    let l = at-loop .loop in
+    let a = at-start .args in
     let n = length (a .offs .now) in
     let E = entries (a .offs .now) (a .marks .now) (a .answers .now) (a .shares .now) in
     let f = lineAt E (length (a .mids .now)) (length (a .text .now)) in
-    let g = gives-as {o = lineAt E (length (l .mids)) (length (l .text)) (l .i)} (at-why .given .1) (at-line-at .ensures .line) in
+    let g = gives-as {o = lineAt E (length (l .mids)) (length (l .text)) (l .i)} (at-why .why .given .1) (at-line-at .line-at .ensures .line) in
     let h = gives-room E (l .i) (l .inv .1) (l .inv .2) g in
-    tries-refused _ _ (lineWords (a .mids .now) (a .text .now)) (lineWords (at-line-at .last .1 .1 .1 .1 .1 .0) (at-line-at .last .1 .1 .1 .1 .1 .1 .0)) _ (try-refused f n (l .i) _ (l .text) _ (omega arith) h (l .inv .3) ∙ sym (tried-alike E _ _ (likewise (at-if1 .left) (at-alike .ensures)))) (omega arith) (omega arith) (c .before .before .before .before .refuse2 .ensures)
+    tries-refused _
+    (try-refused f n (l .i) _ (l .text) _ (omega arith) h (l .inv .3)
+    ∙ sym (tried-alike E _ _ (likewise (at-if1 .if1 .left) (at-alike .alike .ensures))))
+    (omega (arith, l .inv .2, at-line-at .line-at .kept .1 .1 .1 .1 .1 .1 .0)) (omega (arith, l .inv .1, at-line-at .line-at .kept .1 .1 .1 .1 .1 .0))
+    (c .before .before .before .before .refuse2 .ensures)
 
 enum-told : tie.Need-enum-told Inv-loop μ-loop
 enum-told c = search needs
@@ -116,7 +127,9 @@ returns-3 c =
     let n = length (a .offs .now) in
     let E = entries (a .offs .now) (a .marks .now) (a .answers .now) (a .shares .now) in
     let f = lineAt E (length (a .mids .now)) (length (a .text .now)) in
-    tries-done _ (lineWords (a .mids .now) (a .text .now)) (lineWords (l .mids) (l .text)) _ (try-done f n (l .i) (omega arith) (l .inv .3) ∙ sym (tried-alike E _ _ (likewise (at-if1 .if1 .left) (at-alike .alike .ensures)))) (omega arith) (l .inv .2) (l .inv .1) (c .before .before .clear-bytes .ensures) (at-clear .clear .ensures)
+    tries-done (lineWords (l .mids) (l .text))
+    (try-done f n (l .i) (omega arith) (l .inv .3) ∙ sym (tried-alike E _ _ (likewise (at-if1 .if1 .left) (at-alike .alike .ensures))))
+    (omega arith) (l .inv .2) (l .inv .1) (c .before .before .clear-bytes .ensures) (at-clear .clear .ensures)
 
 pub try-lines-spec : {M : Type 1} → statement M
 try-lines-spec =

@@ -49,13 +49,16 @@ returns c =
     let at-clear-bytes = at-put-named .before .before .before .before .before in
     let at-start = at-clear-bytes .before .before .before .before in
     let a = at-start .args in
-    text-out (a .out .now) (at-clear-bytes .clear-bytes .last .0) (off= ++ decimal (a .off) ++ idx= ++ decimal (a .idx) ++ mids= ++ midsText (a .mids .now)) (at-put-mids .put-mids .last .0) _ _ _ (at-clear-bytes .clear-bytes .ensures)
-    (writes-then _ _ (off= ++ decimal (a .off) ++ idx= ++ decimal (a .idx) ++ mids=) (at-put .put .last .0) _ (midsText (a .mids .now)) _ _
-    (writes-then _ _ (off= ++ decimal (a .off) ++ idx= ++ decimal (a .idx)) (at-put-named2 .put-named2 .last .0) _ mids= _ _
-    (writes-named _ _ (off= ++ decimal (a .off)) (at-put-named .put-named .last .0) _ idx= (decimal (a .idx)) _ _ (at-put-named .put-named .ensures) (at-put-named2 .put-named2 .ensures))
+    text-out (a .out .now) (off= ++ decimal (a .off) ++ idx= ++ decimal (a .idx) ++ mids= ++ midsText (a .mids .now))
+    (at-clear-bytes .clear-bytes .ensures)
+    (writes-then
+    (writes-then
+    (writes-named idx= (decimal (a .idx)) (at-put-named .put-named .ensures) (at-put-named2 .put-named2 .ensures))
     (at-put .put .ensures))
     (at-put-mids .put-mids .ensures))
     (c .before .before .end-line .ensures)
 
 pub entry-spec : {M : Type 1} → statement M
-entry-spec = tie.close (tie.spec clear-bytes-requires slice-aggregate-put-named put-named-requires slice-aggregate-put-named-2 put-named-requires-2 slice-aggregate-put put-requires put-mids-requires end-line-requires same-length returns)
+entry-spec =
+    tie.close (tie.spec clear-bytes-requires slice-aggregate-put-named put-named-requires slice-aggregate-put-named-2 put-named-requires-2
+    slice-aggregate-put put-requires put-mids-requires end-line-requires same-length returns)

@@ -26,7 +26,8 @@ same-length c = search needs
 returns : tie.Need-returns
 returns c =
     let a = c .before .before .before .before .before .before .args in
-    rw (head-unknown _ (a .hits) (length (a .out .now)) (inl (c .if1 .taken))) (gives-refused _ _ _ UnknownKind refl (c .before .before .before .clear-bytes .ensures))
+    rw (head-unknown _ (a .hits) (length (a .out .now)) (inl (c .if1 .taken)))
+    (gives-refused _ _ _ UnknownKind refl (c .before .before .before .clear-bytes .ensures))
 
 same-length-2 : tie.Need-same-length-2
 same-length-2 c = search needs
@@ -34,7 +35,8 @@ same-length-2 c = search needs
 returns-2 : tie.Need-returns-2
 returns-2 c =
     let a = c .before .before .before .before .before .before .before .args in
-    rw (head-unknown _ (a .hits) (length (a .out .now)) (inr (c .if2 .taken))) (gives-refused _ _ _ UnknownKind refl (c .before .before .before .before .clear-bytes .ensures))
+    rw (head-unknown _ (a .hits) (length (a .out .now)) (inr (c .if2 .taken)))
+    (gives-refused _ _ _ UnknownKind refl (c .before .before .before .before .clear-bytes .ensures))
 
 slice-aggregate-put : tie.Need-slice-aggregate-put
 slice-aggregate-put c = search needs
@@ -66,11 +68,11 @@ returns-3 c =
     let at-start = at-clear-bytes .before .before .before in
     let a = at-start .args in
     rw (head-known (a .kind) (a .hits) (length (a .out .now)) (omega arith) (omega arith)) (
-    text-out (a .out .now) (at-clear-bytes .clear-bytes .last .0) (kind= ++ kindName (a .kind) ++ hits= ++ decimal (a .hits)) (at-put-named .put-named .last .0) _ _ _ (at-clear-bytes .clear-bytes .ensures)
-    (writes-named _ _ (kind= ++ kindName (a .kind)) (at-put-kind .put-kind .last .0) _ hits= (decimal (a .hits)) _ _
-    (writes-then _ _ kind= (at-put .put .last .0) _ (kindName (a .kind)) _ _ (at-put .put .ensures) (at-put-kind .put-kind .ensures))
-    (at-put-named .put-named .ensures))
+    text-out (a .out .now) (kind= ++ kindName (a .kind) ++ hits= ++ decimal (a .hits)) (at-clear-bytes .clear-bytes .ensures)
+    (writes-named hits= (decimal (a .hits)) (writes-then (at-put .put .ensures) (at-put-kind .put-kind .ensures)) (at-put-named .put-named .ensures))
     (c .before .before .end-line .ensures))
 
 pub head-spec : {M : Type 1} → statement M
-head-spec = tie.close (tie.spec clear-bytes-requires same-length returns same-length-2 returns-2 slice-aggregate-put put-requires put-kind-requires slice-aggregate-put-named put-named-requires end-line-requires same-length-3 returns-3)
+head-spec =
+    tie.close (tie.spec clear-bytes-requires same-length returns same-length-2 returns-2 slice-aggregate-put put-requires put-kind-requires
+    slice-aggregate-put-named put-named-requires end-line-requires same-length-3 returns-3)

@@ -1,11 +1,7 @@
 -- `refs_program::listing_text::put_mids` meets its contract: no method is `-`; otherwise it is the first, and then the rest with their commas.
 -- Assumes nothing.
 use native.Mathlib.Omega.{arith}
-use Prim.Native.Nat.{_-_}
-use lib.ListN.{length, getD, take, drop}
-use Rattle.text_out.specs.Text.{decimal}
 use Rattle.text_out.proofs.Laws.{writes-then}
-use Rattle.refs_program.specs.Text.{more}
 use Rattle.refs_program.proofs.TextLaws.{mids-some, mids-none}
 use borrow.Author.Needs.{needs}
 use Rattle.refs_program.proofs.listing_text.put_mids.Statement.{statement}
@@ -55,7 +51,9 @@ returns-2 c =
     let at-put-number = c .before .before .before .before .before .before .before in
     let at-start = at-put-number .before .before .before .before .before .before in
     let ms = at-start .args .mids .now in
-    rw (mids-some ms (omega arith)) (writes-then _ _ (decimal (getD ms 0 0)) (at-put-number .put-number .last .0) _ (more (take (length ms - 1) (drop 1 ms))) _ _ (at-put-number .put-number .ensures) (c .before .before .put-rest .ensures))
+    rw (mids-some ms (omega arith)) (writes-then (at-put-number .put-number .ensures) (c .before .before .put-rest .ensures))
 
 pub put-mids-spec : {M : Type 1} → statement M
-put-mids-spec = tie.close (tie.spec slice-aggregate-put put-requires same-length returns shared-slice-read-put-number cast-put-number put-number-requires sub-put-rest part-put-rest-start part-put-rest-end put-rest-requires same-length-2 returns-2)
+put-mids-spec =
+    tie.close (tie.spec slice-aggregate-put put-requires same-length returns shared-slice-read-put-number cast-put-number put-number-requires
+    sub-put-rest part-put-rest-start part-put-rest-end put-rest-requires same-length-2 returns-2)

@@ -48,7 +48,7 @@ loop-again c =
     let at-start = at-loop .before .before .before in
     let l = at-loop .loop in
     let a = at-start .args in
-    (omega arith, search needs, more-next (a .out .now) (a .at) (a .methods .now) (l .out) (l .p) (l .i) _ _ (omega arith) (l .inv .2) (c .before .before .put-named .ensures))
+    (omega arith, search needs, more-next (a .methods .now) (l .i) (omega arith) (l .inv .2) (c .before .before .put-named .ensures))
 
 same-length : tie.Need-same-length Inv-loop μ-loop
 same-length c = search needs

@@ -39,9 +39,11 @@ returns c =
     let at-clear-bytes = at-number .before .before .before .before .before in
     let at-start = at-clear-bytes .before .before .before in
     let a = at-start .args in
-    text-out (a .out .now) (at-clear-bytes .clear-bytes .last .0) (refusal= ++ decimal (refusalNumber (a .why))) (at-put-named .put-named .last .0) _ _ _ (at-clear-bytes .clear-bytes .ensures)
-    (named-number _ _ refusal= _ _ _ _ (at-number .number .ensures) (at-put-named .put-named .ensures))
+    text-out (a .out .now) (refusal= ++ decimal (refusalNumber (a .why))) (at-clear-bytes .clear-bytes .ensures)
+    (named-number refusal= (at-number .number .ensures) (at-put-named .put-named .ensures))
     (c .before .before .end-line .ensures)
 
 pub refused-spec : {M : Type 1} → statement M
-refused-spec = tie.close (tie.spec clear-bytes-requires slice-aggregate-put-named number-requires cast-put-named put-named-requires end-line-requires same-length returns)
+refused-spec =
+    tie.close
+    (tie.spec clear-bytes-requires slice-aggregate-put-named number-requires cast-put-named put-named-requires end-line-requires same-length returns)

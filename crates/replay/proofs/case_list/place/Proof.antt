@@ -13,8 +13,8 @@ abbrev μ-loop : tie.MeasureT-loop
 loop-holds : tie.Need-loop-holds Inv-loop μ-loop
 loop-holds c = search needs
 
-behind-part-requires : tie.Need-behind-part-requires Inv-loop μ-loop
-behind-part-requires c κs = search needs
+after-part-requires : tie.Need-after-part-requires Inv-loop μ-loop
+after-part-requires c κs = search needs
 
 enum-known-next : tie.Need-enum-known-next Inv-loop μ-loop
 enum-known-next c = search needs
@@ -44,7 +44,7 @@ place-spec =
     Inv-loop
     μ-loop
     loop-holds
-    behind-part-requires
+    after-part-requires
     enum-known-next
     enum-told
     returns

@@ -35,7 +35,9 @@ returns-2 c =
     let at-read-word = c .before .before .before .before .before in
     let at-start = at-read-word .before .before .before in
     let a = at-start .args in
-    rw (← met (c .before .before .before .a .given .1) (at-read-word .read-word .ensures)) (c .ended .ensures ∙ ap (ended (a .text .now)) (c .before .read-kind .ensures))
+    rw (← met (c .before .before .before .a .given .1) (at-read-word .read-word .ensures))
+    (c .ended .ensures ∙ ap (ended (a .text .now)) (c .before .read-kind .ensures))
 
 pub kind-line-spec : {M : Type 1} → statement M
-kind-line-spec = tie.close (tie.spec slice-aggregate-read-word read-word-requires enum-known-a enum-told returns read-kind-requires ended-requires returns-2)
+kind-line-spec =
+    tie.close (tie.spec slice-aggregate-read-word read-word-requires enum-known-a enum-told returns read-kind-requires ended-requires returns-2)

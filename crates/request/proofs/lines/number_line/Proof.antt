@@ -32,7 +32,8 @@ returns-2 c =
     let at-read-word = c .before .before .before .before .before in
     let at-start = at-read-word .before .before .before in
     let a = at-start .args in
-    rw (← met (c .before .before .before .a .given .1) (at-read-word .read-word .ensures)) (c .ended .ensures ∙ ap (ended (a .text .now)) (c .before .read-number .ensures))
+    rw (← met (c .before .before .before .a .given .1) (at-read-word .read-word .ensures))
+    (c .ended .ensures ∙ ap (ended (a .text .now)) (c .before .read-number .ensures))
 
 pub number-line-spec : {M : Type 1} → statement M
 number-line-spec = tie.close (tie.spec read-word-requires enum-known-a enum-told returns read-number-requires ended-requires returns-2)

@@ -32,7 +32,10 @@ returns-2 : tie.Need-returns-2
 unfolding pairLine
 returns-2 c =
     let at-read-word = c .before .before .before .before .before .before in
-    rw (← met (c .before .before .before .before .a .given .1) (at-read-word .read-word .ensures), ← met (c .enum-told2 .given .1) (c .before .before .read-number .ensures))
+    rw (
+      ← met (c .before .before .before .before .a .given .1) (at-read-word .read-word .ensures),
+      ← met (c .enum-told2 .given .1) (c .before .before .read-number .ensures),
+    )
 
 slice-aggregate-number-line : tie.Need-slice-aggregate-number-line
 slice-aggregate-number-line c = search needs
@@ -53,7 +56,11 @@ returns-3 c =
     let at-read-number = at-off .before .before in
     let at-a = at-read-number .before .before in
     let at-read-word = at-a .before .before in
-    rw (← met (at-a .a .given .1) (at-read-word .read-word .ensures), ← met (at-off .off .given .1) (at-read-number .read-number .ensures), ← met (c .enum-told3 .given .1) (c .before .before .number-line .ensures))
+    rw (
+      ← met (at-a .a .given .1) (at-read-word .read-word .ensures),
+      ← met (at-off .off .given .1) (at-read-number .read-number .ensures),
+      ← met (c .enum-told3 .given .1) (c .before .before .number-line .ensures),
+    )
 
 returns-4 : tie.Need-returns-4
 unfolding pairLine
@@ -62,7 +69,13 @@ returns-4 c =
     let at-read-number = at-off .before .before in
     let at-a = at-read-number .before .before in
     let at-read-word = at-a .before .before in
-    rw (← met (at-a .a .given .1) (at-read-word .read-word .ensures), ← met (at-off .off .given .1) (at-read-number .read-number .ensures), ← met (c .before .size .given .1) (c .before .before .before .number-line .ensures))
+    rw (
+      ← met (at-a .a .given .1) (at-read-word .read-word .ensures),
+      ← met (at-off .off .given .1) (at-read-number .read-number .ensures),
+      ← met (c .before .size .given .1) (c .before .before .before .number-line .ensures),
+    )
 
 pub pair-line-spec : {M : Type 1} → statement M
-pair-line-spec = tie.close (tie.spec read-word-requires enum-known-a enum-told returns read-number-requires enum-known-off enum-told-2 returns-2 slice-aggregate-number-line number-line-requires enum-known-size enum-told-3 returns-3 returns-4)
+pair-line-spec =
+    tie.close (tie.spec read-word-requires enum-known-a enum-told returns read-number-requires enum-known-off enum-told-2 returns-2
+    slice-aggregate-number-line number-line-requires enum-known-size enum-told-3 returns-3 returns-4)

@@ -36,7 +36,10 @@ unfolding kindAt
 returns-2 c =
     let at-enum-told = c .before .before .before .before .before in
     let at-read-word = at-enum-told .before .before in
-    rw (← met (at-enum-told .enum-told .given .1) (at-read-word .read-word .ensures), ← met (c .before .b .given .1) (c .before .before .before .read-word2 .ensures))
+    rw (
+      ← met (at-enum-told .enum-told .given .1) (at-read-word .read-word .ensures),
+      ← met (c .before .b .given .1) (c .before .before .before .read-word2 .ensures),
+    )
 
 enum-told-2 : tie.Need-enum-told-2
 enum-told-2 c = search needs
@@ -57,7 +60,11 @@ returns-3 c =
     let at-read-word2 = at-enum-told2 .before .before in
     let at-enum-told = at-read-word2 .before .before in
     let at-read-word = at-enum-told .before .before in
-    rw (← met (at-enum-told .enum-told .given .1) (at-read-word .read-word .ensures), ← met (at-enum-told2 .enum-told2 .given .1) (at-read-word2 .read-word2 .ensures), ← met (c .before .c .given .1) (c .before .before .before .read-word3 .ensures))
+    rw (
+      ← met (at-enum-told .enum-told .given .1) (at-read-word .read-word .ensures),
+      ← met (at-enum-told2 .enum-told2 .given .1) (at-read-word2 .read-word2 .ensures),
+      ← met (c .before .c .given .1) (c .before .before .before .read-word3 .ensures),
+    )
 
 enum-told-3 : tie.Need-enum-told-3
 enum-told-3 c = search needs
@@ -80,7 +87,12 @@ returns-4 c =
     let at-read-word2 = at-enum-told2 .before .before in
     let at-enum-told = at-read-word2 .before .before in
     let at-read-word = at-enum-told .before .before in
-    rw (← met (at-enum-told .enum-told .given .1) (at-read-word .read-word .ensures), ← met (at-enum-told2 .enum-told2 .given .1) (at-read-word2 .read-word2 .ensures), ← met (at-enum-told3 .enum-told3 .given .1) (at-read-word3 .read-word3 .ensures), ← met (c .before .d .given .1) (c .before .before .before .read-word4 .ensures))
+    rw (
+      ← met (at-enum-told .enum-told .given .1) (at-read-word .read-word .ensures),
+      ← met (at-enum-told2 .enum-told2 .given .1) (at-read-word2 .read-word2 .ensures),
+      ← met (at-enum-told3 .enum-told3 .given .1) (at-read-word3 .read-word3 .ensures),
+      ← met (c .before .d .given .1) (c .before .before .before .read-word4 .ensures),
+    )
 
 enum-told-4 : tie.Need-enum-told-4
 enum-told-4 c = search needs
@@ -93,7 +105,12 @@ returns-5 c =
     let at-read-word2 = at-enum-told2 .before .before in
     let at-enum-told = at-read-word2 .before .before in
     let at-read-word = at-enum-told .before .before in
-    rw (← met (at-enum-told .enum-told .given .1) (at-read-word .read-word .ensures), ← met (at-enum-told2 .enum-told2 .given .1) (at-read-word2 .read-word2 .ensures), ← met (c .before .before .before .before .enum-told3 .given .1) (at-read-word3 .read-word3 .ensures), ← met (c .enum-told4 .given .1) (c .before .before .read-word4 .ensures))
+    rw (
+      ← met (at-enum-told .enum-told .given .1) (at-read-word .read-word .ensures),
+      ← met (at-enum-told2 .enum-told2 .given .1) (at-read-word2 .read-word2 .ensures),
+      ← met (c .before .before .before .before .enum-told3 .given .1) (at-read-word3 .read-word3 .ensures),
+      ← met (c .enum-told4 .given .1) (c .before .before .read-word4 .ensures),
+    )
 
 pub read-kind-spec : {M : Type 1} → statement M
 read-kind-spec =

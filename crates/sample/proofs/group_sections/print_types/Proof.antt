@@ -1,7 +1,6 @@
 -- `group_sections::print_types` is safe and ends: the index stays within the pool. Assumes nothing.
 use Prim.Native.Nat.{_≤_, _-_}
 use borrow.Author.Needs.{needs}
-use lib.ListN.{length}
 use Rattle.sample.proofs.group_sections.print_types.Statement.{statement}
 use Rattle.sample.proofs.group_sections.print_types.Tie as tie
 

@@ -34,8 +34,11 @@ loop-again : tie.Need-loop-again Inv-loop μ-loop
 unfolding countedUp
 loop-again c =
     let p = c .before .before .put-itself .ensures in
-    let l = c .before .before .before .before .before .loop in
-    (omega arith, rw (add-one (l .k)) (p ∙ ap (λ (ws : List ℕ). set ws (l .k) (l .k)) (l .inv .1)), ap length p ∙ length-set (l .list) _ _ ∙ l .inv .2)
+    let l = c .before .before .before .before .before .loop in (
+      omega arith,
+      rw (add-one (l .k)) (p ∙ ap (λ (ws : List ℕ). set ws (l .k) (l .k)) (l .inv .1)),
+      ap length p ∙ length-set (l .list) _ _ ∙ l .inv .2,
+    )
 
 same-length : tie.Need-same-length Inv-loop μ-loop
 same-length c = search needs

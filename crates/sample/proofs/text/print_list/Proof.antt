@@ -36,4 +36,5 @@ returns : tie.Need-returns Inv-loop μ-loop
 returns c = search needs
 
 pub print-list-spec : {M : Type 1} → statement M
-print-list-spec = tie.close (tie.spec Inv-loop μ-loop loop-holds print-entry-requires add-i loop-less loop-again slice-aggregate-print print-requires returns)
+print-list-spec =
+    tie.close (tie.spec Inv-loop μ-loop loop-holds print-entry-requires add-i loop-less loop-again slice-aggregate-print print-requires returns)

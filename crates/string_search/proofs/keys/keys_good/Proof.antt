@@ -29,7 +29,9 @@ returns : tie.Need-returns Inv-loop μ-loop
 returns c = sym (good-low _ _ _ (c .before .before .loop-test .taken) (c .if1 .taken)) ∙ c .before .before .before .loop .inv .0
 
 returns-2 : tie.Need-returns-2 Inv-loop μ-loop
-returns-2 c = sym (good-last _ _ _ (c .before .before .before .loop-test .taken) (c .before .if1 .left) (c .if2 .taken)) ∙ c .before .before .before .before .loop .inv .0
+returns-2 c =
+    sym (good-last _ _ _ (c .before .before .before .loop-test .taken) (c .before .if1 .left) (c .if2 .taken))
+    ∙ c .before .before .before .before .loop .inv .0
 
 add-least : tie.Need-add-least Inv-loop μ-loop
 add-least c = omega (arith, c .before .before .shared-slice-known .given (c .before .before .before .before .loop .i))
@@ -41,7 +43,11 @@ loop-less : tie.Need-loop-less Inv-loop μ-loop
 loop-less c = search needs
 
 loop-again : tie.Need-loop-again Inv-loop μ-loop
-loop-again c = (sym (good-next _ _ _ (c .before .before .before .loop-test .taken) (c .before .if1 .left) (c .if2 .left)) ∙ c .before .before .before .before .loop .inv .0, omega arith)
+loop-again c = (
+  sym (good-next _ _ _ (c .before .before .before .loop-test .taken) (c .before .if1 .left) (c .if2 .left))
+      ∙ c .before .before .before .before .loop .inv .0,
+  omega arith,
+)
 
 returns-3 : tie.Need-returns-3 Inv-loop μ-loop
 returns-3 c = sym (good-end _ (c .before .loop .least) _ (c .loop-test .left)) ∙ c .before .loop .inv .0

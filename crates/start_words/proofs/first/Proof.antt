@@ -1,0 +1,23 @@
+-- `first` meets its contract: a front of the words is the definition's, and fewer words than asked for are all of them.
+-- Assumes nothing.
+use mathlib.Core.Path.{sym}
+use native.Mathlib.Omega.{arith}
+use lib.ListN.{length-take}
+use Rattle.start_words.specs.Starts.{firstStarts}
+use Rattle.start_words.proofs.Starts.{first-all}
+use borrow.Author.Needs.{needs}
+use Rattle.start_words.proofs.first.Statement.{statement}
+use Rattle.start_words.proofs.first.Tie as tie
+
+returns : tie.Need-returns
+returns c = sym (first-all (c .before .args .n) (c .before .args .starts .now) (omega arith))
+
+slice-aggregate-result : tie.Need-slice-aggregate-result
+slice-aggregate-result c = simp length-take (omega arith)
+
+returns-2 : tie.Need-returns-2
+unfolding firstStarts
+returns-2 c = search needs
+
+pub first-spec : {M : Type 1} → statement M
+first-spec = tie.close (tie.spec returns slice-aggregate-result returns-2)
