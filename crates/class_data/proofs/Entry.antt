@@ -16,7 +16,7 @@ use Rattle.tinydex.specs.declared.DexHeader.{DexHeader}
 use Rattle.class_data.specs.Codes.{successive, defined, entryFrom, mapEntry, byEntry, codesOf}
 use Rattle.class_data.specs.Steps.{Kept, Left, stored, place}
 use Rattle.class_data.specs.declared.item.Offset.the-variants as o
-use Rattle.class_data.proofs.Laws.{Word}
+use Rattle.structs.proofs.Laws.{Word}
 
 -- ---- the map
 module _ (s : List ℕ) (i : ℕ) where

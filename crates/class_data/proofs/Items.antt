@@ -13,7 +13,7 @@ use Rattle.refusal.specs.declared.Refusal.{Refusal}
 use Rattle.refusal.specs.declared.Refusal.the-variants.{TableOutside}
 use Rattle.class_data.specs.Walk.{Walk, andOn, classDataAt}
 use Rattle.class_data.specs.Walk.Walk.{refused}
-use Rattle.class_data.proofs.Laws.{Word}
+use Rattle.structs.proofs.Laws.{Word}
 use Rattle.class_data.specs.Codes.{successive, defined}
 use Rattle.class_data.specs.Stored.{CodeWords}
 use Rattle.class_data.specs.Steps.{Kept, kept, ItemPre, Left, stored, seen, DefinedOn, OneDefined}

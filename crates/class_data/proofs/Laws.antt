@@ -10,12 +10,9 @@ use mathlib.Core.List.{List}
 use mathlib.Core.Option.{Option, none, some}
 use lib.ListN.{length}
 use lib.Dec.{ltb, leb}
-use borrow.Author.Tests.{lt-ltb, le-ltb, le-leb, lt-leb, ltb-true, leb-true, leb-false}
+use borrow.Author.Tests.{lt-ltb, le-ltb, le-leb, lt-leb, ltb-true, leb-true}
 use Rattle.words.proofs.Shared.{and-left, and-right}
-use Rattle.dalvik.specs.Numbers.{le16, le32}
-use Rattle.structs.specs.Reads.{read16, read32}
-use Rattle.structs.specs.declared.Read16.the-variants as v16
-use Rattle.structs.specs.declared.Read32.the-variants as v32
+use Rattle.dalvik.specs.Numbers.{le32}
 use Rattle.leb128.specs.Leb.{ulebFast, ulebLen}
 use Rattle.leb128.specs.declared.Uleb.the-variants as u
 use Rattle.leb128.specs.declared.Len.the-variants as l
@@ -35,48 +32,6 @@ use Rattle.class_data.specs.declared.item.Sizes.the-variants as z
 use Rattle.class_data.specs.declared.item.Head.{Head}
 use Rattle.class_data.specs.declared.item.Head.the-variants as h
 use Rattle.class_data.specs.declared.item.Item.the-variants as t
-
--- ---- a read taken apart
-value16 : (b : Bool) (v x : ℕ) → v16.Value v ≡ cond b (v16.Value x) v16.Outside → (b ≡ true) × (v ≡ x)
-value16 true v x e = (refl, cc)
-value16 false v x e = absurd (let q : _≡_ {A = ℕ} 0 1 = cc in omega arith)
-
-outside16 : (b : Bool) (x : ℕ) → v16.Outside ≡ cond b (v16.Value x) v16.Outside → b ≡ false
-outside16 true x e = absurd (let q : _≡_ {A = ℕ} 0 1 = cc in omega arith)
-outside16 false x e = refl
-
-value32 : (b : Bool) (v x : ℕ) → v32.Value v ≡ cond b (v32.Value x) v32.Outside → (b ≡ true) × (v ≡ x)
-value32 true v x e = (refl, cc)
-value32 false v x e = absurd (let q : _≡_ {A = ℕ} 0 1 = cc in omega arith)
-
-outside32 : (b : Bool) (x : ℕ) → v32.Outside ≡ cond b (v32.Value x) v32.Outside → b ≡ false
-outside32 true x e = absurd (let q : _≡_ {A = ℕ} 0 1 = cc in omega arith)
-outside32 false x e = refl
-
-pub record Word (s : List ℕ) (i v n : ℕ) (x : ℕ) : Type 0 where
-  pub inside : i + n ≤ length s
-  pub is : v ≡ x
-
-module _ (s : List ℕ) (i : ℕ) where
-  pub read16-value : (v : ℕ) → v16.Value v ≡ read16 s i → Word s i v 2 (le16 s i)
-  unfolding read16
-  read16-value v e =
-      let q = value16 (leb (i + 2) (length s)) v (le16 s i) e in
-      record { inside = leb-true _ _ (q .0); is = q .1 }
-
-  pub read16-outside : v16.Outside ≡ read16 s i → length s < i + 2
-  unfolding read16
-  read16-outside e = leb-false _ _ (outside16 (leb (i + 2) (length s)) (le16 s i) e)
-
-  pub read32-value : (v : ℕ) → v32.Value v ≡ read32 s i → Word s i v 4 (le32 s i)
-  unfolding read32
-  read32-value v e =
-      let q = value32 (leb (i + 4) (length s)) v (le32 s i) e in
-      record { inside = leb-true _ _ (q .0); is = q .1 }
-
-  pub read32-outside : v32.Outside ≡ read32 s i → length s < i + 4
-  unfolding read32
-  read32-outside e = leb-false _ _ (outside32 (leb (i + 4) (length s)) (le32 s i) e)
 
 -- ---- an offset taken apart
 module _ (r : Offset) (d : Option ℕ) (e : place r ≡ d) where

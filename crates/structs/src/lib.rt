@@ -32,8 +32,8 @@ pub fn u16_at(s: &[u8], at: usize) -> u32
     byte_at(s, at) + 256 * byte_at(s, at + 1)
 }
 
-// The number of 4 bytes at a place, zeros past the end.
-pub fn u32_at(s: &[u8], at: usize) -> u32
+// The number of 4 bytes at a place, zeros past the end, a byte at a time.
+fn u32_bytewise(s: &[u8], at: usize) -> u32
     ensures { λ r. ⌜ r ≡ le32 (now (s .entry)) at ⌝ }
 {
     let low = u16_at(s, at);
@@ -72,5 +72,15 @@ pub fn read_u32(s: &[u8], at: usize) -> Read32
     if n - 4 < at {
         return Read32::Outside;
     }
-    Read32::Value(u32_at(s, at))
+    Read32::Value(u32_bytewise(s, at))
+}
+
+// The number of 4 bytes at a place, zeros past the end. Where all of them are inside, one test tells.
+pub fn u32_at(s: &[u8], at: usize) -> u32
+    ensures { λ r. ⌜ r ≡ le32 (now (s .entry)) at ⌝ }
+{
+    match read_u32(s, at) {
+        Read32::Value(v) => v,
+        Read32::Outside => u32_bytewise(s, at),
+    }
 }

@@ -6,7 +6,7 @@ use Rattle.class_data.proofs.class_def.Tie as tie
 use native.Mathlib.Omega.{arith}
 use Rattle.words.proofs.Shared.{met}
 use Rattle.class_data.proofs.Items.{def-outside, def-none, def-some}
-use Rattle.class_data.proofs.Laws.{read32-value, read32-outside}
+use Rattle.structs.proofs.Laws.{read32-value, read32-outside}
 
 add-read-u32 : tie.Need-add-read-u32
 add-read-u32 c = search needs

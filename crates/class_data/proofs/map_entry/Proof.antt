@@ -6,7 +6,7 @@ use Rattle.class_data.proofs.map_entry.Statement.{statement}
 use Rattle.class_data.proofs.map_entry.Tie as tie
 use Rattle.words.proofs.Shared.{met}
 use Rattle.class_data.proofs.Entry.{Searching, map-zero, map-outside, map-inside, entry-past, entry-this, entry-again, entry-end}
-use Rattle.class_data.proofs.Laws.{read16-value, read16-outside, read32-value, read32-outside}
+use Rattle.structs.proofs.Laws.{read16-value, read16-outside, read32-value, read32-outside}
 
 abbrev Inv-loop : tie.InvT-loop
 Inv-loop buf mapoff size at₀ left₀ at left = Searching buf mapoff size at left

@@ -5,7 +5,7 @@ use Rattle.class_data.proofs.word_inside.Statement.{statement}
 use Rattle.class_data.proofs.word_inside.Tie as tie
 use native.Mathlib.Omega.{arith}
 use Rattle.words.proofs.Shared.{met}
-use Rattle.class_data.proofs.Laws.{read32-value, read32-outside}
+use Rattle.structs.proofs.Laws.{read32-value, read32-outside}
 
 read-u32-requires : tie.Need-read-u32-requires
 read-u32-requires c κs = search needs

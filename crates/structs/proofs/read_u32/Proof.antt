@@ -14,11 +14,11 @@ returns c = out32 _ _ (omega arith)
 returns-2 : tie.Need-returns-2
 returns-2 c = out32 _ _ (omega arith)
 
-u32-at-requires : tie.Need-u32-at-requires
-u32-at-requires c κs = search needs
+u32-bytewise-requires : tie.Need-u32-bytewise-requires
+u32-bytewise-requires c κs = search needs
 
 returns-3 : tie.Need-returns-3
-returns-3 c = ap Value (c .u32-at .ensures) ∙ in32 _ _ (omega arith)
+returns-3 c = ap Value (c .u32-bytewise .ensures) ∙ in32 _ _ (omega arith)
 
 pub read-u32-spec : {M : Type 1} → statement M
-read-u32-spec = tie.close (tie.spec returns returns-2 u32-at-requires returns-3)
+read-u32-spec = tie.close (tie.spec returns returns-2 u32-bytewise-requires returns-3)

@@ -1,47 +1,30 @@
--- `structs::u32_at` meets its contract: both halves by the read of two bytes, and where nothing of the high half is inside it is 0.
+-- `structs::u32_at` meets its contract: inside, the read with a case of its own has the number, and else it is read a byte at a time.
 -- Assumes nothing.
-use mathlib.Core.Path.{_∙_}
-use native.Mathlib.Omega.{arith}
-use Rattle.dalvik.specs.Numbers.{le32}
-use Rattle.structs.proofs.Laws.{le32-low}
+use mathlib.Core.Path.{sym, _∙_}
+use Rattle.structs.proofs.Laws.{read32-value}
 use borrow.Author.Needs.{needs}
 use Rattle.structs.proofs.u32_at.Statement.{statement}
 use Rattle.structs.proofs.u32_at.Tie as tie
 
-u16-at-requires : tie.Need-u16-at-requires
-u16-at-requires c κs = search needs
+read-u32-requires : tie.Need-read-u32-requires
+read-u32-requires c κs = search needs
+
+enum-known-v : tie.Need-enum-known-v
+enum-known-v c = search needs
+
+enum-told : tie.Need-enum-told
+enum-told c = search needs
+
+u32-bytewise-requires : tie.Need-u32-bytewise-requires
+u32-bytewise-requires c κs = search needs
 
 returns : tie.Need-returns
-returns c = c .before .u16-at .ensures .is ∙ le32-low _ _ (omega arith)
+returns c = read32-value _ _ _ (sym (c .before .v .given .1) ∙ c .before .before .before .read-u32 .ensures) .is
 
 returns-2 : tie.Need-returns-2
-returns-2 c = c .before .before .u16-at .ensures .is ∙ le32-low _ _ (omega arith)
-
-add-u16-at : tie.Need-add-u16-at
-add-u16-at c = search needs
-
-u16-at-requires-2 : tie.Need-u16-at-requires-2
-u16-at-requires-2 c κs = search needs
-
-mul-result : tie.Need-mul-result
-mul-result c = search needs
-
-add-result : tie.Need-add-result
-add-result c = search needs
-
-returns-3 : tie.Need-returns-3
-unfolding le32
-returns-3 c = search needs
+returns-2 c = search needs
 
 pub u32-at-spec : {M : Type 1} → statement M
 u32-at-spec =
     tie.close
-    (tie.spec
-    u16-at-requires
-    returns
-    returns-2
-    add-u16-at
-    u16-at-requires-2
-    mul-result
-    add-result
-    returns-3)
+    (tie.spec read-u32-requires enum-known-v enum-told u32-bytewise-requires returns returns-2)

@@ -5,7 +5,8 @@ use Rattle.class_data.proofs.item.code_item.Statement.{statement}
 use Rattle.class_data.proofs.item.code_item.Tie as tie
 use native.Mathlib.Omega.{arith}
 use Rattle.words.proofs.Shared.{met}
-use Rattle.class_data.proofs.Laws.{read32-value, read32-outside, item-header, item-empty, item-past, item-units}
+use Rattle.structs.proofs.Laws.{read32-value, read32-outside}
+use Rattle.class_data.proofs.Laws.{item-header, item-empty, item-past, item-units}
 
 add-read-u32 : tie.Need-add-read-u32
 add-read-u32 c = search needs
