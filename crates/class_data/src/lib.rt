@@ -21,17 +21,6 @@ use structs::Read32;
 use tinydex::DexHeader;
 use tinydex::Table;
 
-// The word at a place inside the file.
-fn word_inside(buf: &[u8], at: usize) -> u32
-    requires { ⌜ at + 4 ≤ length (now buf) ⌝ }
-    ensures { λ r. ⌜ r ≡ le32 (now (buf .entry)) at ⌝ }
-{
-    match structs::read_u32(buf, at) {
-        Read32::Value(v) => v,
-        Read32::Outside => 0,
-    }
-}
-
 // The map's first entry of class data. The search ends at an entry that is not inside the file.
 fn map_entry(buf: &[u8], mapoff: u32) -> Offset
     ensures { λ r. ⌜ place r ≡ mapEntry (now (buf .entry)) mapoff ⌝ }
@@ -75,8 +64,8 @@ fn build_map_bymap(
         let file = now (buf .entry) in
         ⌜ seen r after ≡ stored (kept 0 before) (successive (le32 file (entry + 4)) file methods (le32 file (entry + 8))) ⌝ }
 {
-    let size = word_inside(buf, entry + 4);
-    let off = word_inside(buf, entry + 8);
+    let size = structs::u32_at(buf, entry + 4);
+    let off = structs::u32_at(buf, entry + 8);
     let mut left = size;
     let mut at = off as usize;
     let mut count: usize = 0;

@@ -2,7 +2,6 @@
 use libc::STDOUT_FILENO;
 use refusal::Answer;
 use refusal::Refusal;
-use structs::Read32;
 use tinydex::DexHeader;
 use tinydex::Table;
 ghost use mathlib.Core.Path.{_≡_};
@@ -111,17 +110,10 @@ pub(crate) fn count_up(list: &mut [u32], n: u32)
 
 // ---- the header record
 
-fn word(file: &[u8], at: usize) -> u32 {
-    match structs::read_u32(file, at) {
-        Read32::Value(v) => v,
-        Read32::Outside => 0,
-    }
-}
-
 fn table(file: &[u8], off: usize, size: usize) -> Table {
     Table {
-        off: word(file, off),
-        size: word(file, size),
+        off: structs::u32_at(file, off),
+        size: structs::u32_at(file, size),
     }
 }
 
@@ -139,6 +131,6 @@ pub(crate) fn header(file: &[u8]) -> DexHeader {
         fields: fields,
         methods: methods,
         classes: classes,
-        mapoff: word(file, 0x34),
+        mapoff: structs::u32_at(file, 0x34),
     }
 }

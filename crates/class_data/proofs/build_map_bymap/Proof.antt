@@ -20,24 +20,24 @@ Inv-loop buf methods entry triples₀ starts₀ size off left₀ at₀ count₀ 
 abbrev μ-loop : tie.MeasureT-loop
 μ-loop buf methods entry triples₀ starts₀ size off left₀ at₀ count₀ triples starts left at count = left
 
-add-word-inside : tie.Need-add-word-inside Inv-loop μ-loop
-add-word-inside c = search needs
+add-u32-at : tie.Need-add-u32-at Inv-loop μ-loop
+add-u32-at c = search needs
 
-word-inside-requires : tie.Need-word-inside-requires Inv-loop μ-loop
-word-inside-requires c κs = search needs
+u32-at-requires : tie.Need-u32-at-requires Inv-loop μ-loop
+u32-at-requires c κs = search needs
 
-add-word-inside-2 : tie.Need-add-word-inside-2 Inv-loop μ-loop
-add-word-inside-2 c = search needs
+add-u32-at-2 : tie.Need-add-u32-at-2 Inv-loop μ-loop
+add-u32-at-2 c = search needs
 
-word-inside-requires-2 : tie.Need-word-inside-requires-2 Inv-loop μ-loop
-word-inside-requires-2 c κs = search needs
+u32-at-requires-2 : tie.Need-u32-at-requires-2 Inv-loop μ-loop
+u32-at-requires-2 c κs = search needs
 
 cast-at : tie.Need-cast-at Inv-loop μ-loop
 cast-at c = search needs
 
 loop-holds : tie.Need-loop-holds Inv-loop μ-loop
 loop-holds c = record {
-  rest = by-words _ _ _ (c .before .word-inside .ensures) (c .word-inside2 .ensures);
+  rest = by-words _ _ _ (c .before .u32-at .ensures) (c .u32-at2 .ensures);
   most = omega arith;
   few = omega arith;
   same = record { triples = refl; starts = refl };
@@ -101,10 +101,10 @@ build-map-bymap-spec =
     (tie.spec
     Inv-loop
     μ-loop
-    add-word-inside
-    word-inside-requires
-    add-word-inside-2
-    word-inside-requires-2
+    add-u32-at
+    u32-at-requires
+    add-u32-at-2
+    u32-at-requires-2
     cast-at
     loop-holds
     class-data-parse-requires
