@@ -17,6 +17,10 @@ units-small op =
     cond-elim (λ (n : ℕ). n < 6) (within op ofFour) 4 _ (λ _. omega arith) (λ _.
     cond-elim (λ (n : ℕ). n < 6) (within op ofFive) 5 0 (λ _. omega arith) (λ _. omega arith)))))
 
+-- what isn't 0 is a number of units
+pub some-units : {n : ℕ} → (n ≡ 0 → ⊥) → Units n ≡ asLength n
+some-units {n} h = rw (ne-eqb n 0 h) refl
+
 pub record Read (op n : ℕ) : Type 0 where
   pub units : n ≡ unitsOf op
   pub some : 0 < n

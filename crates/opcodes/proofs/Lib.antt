@@ -1,2 +1,4 @@
 pub mod Laws
+pub mod Packed
 pub mod Published
+pub mod Table
