@@ -1,3 +1,4 @@
+pub mod Everywhere
 pub mod Laws
 pub mod Packed
 pub mod Published

@@ -13,7 +13,8 @@ use Rattle.opcodes.proofs.entry.line.Tie as tie
 -- the numbers of the other arms, the last arm's first
 abbrev keys : List (List ℕ)
 keys =
-    (14 ∷ []) ∷ (13 ∷ []) ∷ (12 ∷ []) ∷ (11 ∷ []) ∷ (10 ∷ []) ∷ (9 ∷ []) ∷ (8 ∷ []) ∷ (7 ∷ []) ∷ (6 ∷ []) ∷ (5 ∷ []) ∷ (4 ∷ []) ∷ (3 ∷ []) ∷ (2 ∷ []) ∷ (1 ∷ []) ∷ (0 ∷ []) ∷ []
+    (14 ∷ []) ∷ (13 ∷ []) ∷ (12 ∷ []) ∷ (11 ∷ []) ∷ (10 ∷ []) ∷ (9 ∷ []) ∷ (8 ∷ []) ∷ (7 ∷ []) ∷
+    (6 ∷ []) ∷ (5 ∷ []) ∷ (4 ∷ []) ∷ (3 ∷ []) ∷ (2 ∷ []) ∷ (1 ∷ []) ∷ (0 ∷ []) ∷ []
 
 -- the word at upper bits that are known to be k
 at : {upper k word : ℕ} → upper ≡ k → word ≡ packed (16 * k) 16 → word ≡ packed (16 * upper) 16
