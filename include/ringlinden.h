@@ -93,7 +93,8 @@ enum {
     RINGLINDEN_NOT_ASCII = 11,      /* a string that a query is held against is not ASCII */
     RINGLINDEN_REGION_OUTSIDE = 12, /* a region is backward or passes the file's end */
     RINGLINDEN_STRING_INDEX = 13,   /* a string index is not below the string count */
-    RINGLINDEN_LENT_TABLE = 15      /* a lent table does not hold what is needed of it */
+    RINGLINDEN_LENT_TABLE = 15,     /* a lent table does not hold what is needed of it */
+    RINGLINDEN_NUMBER_TOO_LONG = 16 /* a number has more than five bytes, or does not fit 32 bits */
 };
 
 /* The kinds of index that an instruction names. */
@@ -191,7 +192,7 @@ uint32_t ringlinden_name_filter(const uint8_t *file, size_t file_len, const uint
  * found, first 16-byte block, last, and method; slots: *slot_count words, one for each block of the region, 0, or method + 1, or
  * 2^31 + number of a share; shares: *share_count words, three for each share; the region is file[*region_start .. *region_end],
  * whole blocks, so that it may end after the file. Refusals: 1; 4, fewer start words than methods; then as the class data are
- * read 3, 6, 7, 8; 4, one of the others is too short.
+ * read 3, 6, 16, 7, 8; 4, one of the others is too short.
  */
 uint32_t ringlinden_code_table(const uint8_t *file, size_t file_len, const uint32_t header[13],
                                uint32_t *starts, size_t starts_len, uint32_t *triples, size_t triples_len,

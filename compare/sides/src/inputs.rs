@@ -676,12 +676,17 @@ fn lend(case: &mut Case, rng: &mut Rng) {
 }
 
 /// The cases of every run, however few it makes: a file of the greatest length and one of a byte more, which every operation
-/// refuses (1); a method index at its limit; name filters around the sizes at which ours changes its tables, and above all of them.
+/// refuses (1); a method index at its limit, and padded numbers in each place of class data; name filters around the sizes at which ours
+/// changes its tables, and above all of them.
 pub fn always(op: u32) -> Vec<Case> {
     let mut cases: Vec<Case> = [LARGEST, LARGEST + 1].into_iter().flat_map(|n| at_length(op, n)).collect();
     match op {
         NAME_FILTER => cases.extend(many_names()),
-        CODE_TABLE => cases.extend([16_777_215, 16_777_216].map(greatest_method)),
+        CODE_TABLE => {
+            cases.extend([16_777_215, 16_777_216].map(greatest_method));
+            cases.extend(padded_numbers(op));
+        }
+        FIND => cases.extend(padded_numbers(op)),
         SCAN => cases.push(great_indices()),
         _ => {}
     }
@@ -773,6 +778,59 @@ fn greatest_method(index: u32) -> Case {
     case.numbers[9] = 16_777_217;
     lent(&mut case, &[16_777_217, 3, 1, 0]);
     case
+}
+
+/// A class definition at 0, a map at 32, a code item at 48, of const-string of index 0, and a class data item at 80, of these numbers. By the
+/// map or by the class definition.
+fn class_data_of(op: u32, numbers: &[Vec<u8>], by_map: bool) -> Case {
+    let mut case = Case::new(op);
+    case.file = vec![0; 80];
+    case.file[24] = 80;
+    case.file[32..48].copy_from_slice(&[1, 0, 0, 0, 0, 0x20, 0, 0, 1, 0, 0, 0, 80, 0, 0, 0]);
+    case.file[60] = 2;
+    case.file[64] = 0x1a;
+    case.file.extend(numbers.concat());
+    case.numbers[9..13].copy_from_slice(&[3, 0, 1, if by_map { 32 } else { 0 }]);
+    if op == FIND {
+        (case.numbers[13], case.lists[0]) = (1, vec![0]);
+    }
+    case.lent = [16; 8];
+    case
+}
+
+/// Class data in which one number is written otherwise, each in turn: in five bytes, whose fifth fits 32 bits or doesn't, in six, and cut
+/// off after each byte. Two field counts whose sum passes 32 bits come last.
+fn padded_numbers(op: u32) -> Vec<Case> {
+    let short = |list: &[u8]| list.iter().map(|&b| vec![b]).collect::<Vec<_>>();
+    let whole = short(&[1, 1, 2, 1, 3, 1, 4, 2, 0, 9, 48, 1, 0, 0, 2, 1, 48]);
+    let mut cases = Vec::new();
+    for place in 0..whole.len() {
+        let mut ways = vec![vec![0xff, 0xff, 0xff, 0xff, 0x0f], vec![0xff, 0xff, 0xff, 0xff, 0x10]];
+        for first in [0x80, whole[place][0] | 0x80] {
+            ways.extend([0x00, 0x01, 0x0f, 0x10, 0x7f, 0x80].map(|fifth| vec![first, 0x80, 0x80, 0x80, fifth]));
+            ways.push(vec![first, 0x80, 0x80, 0x80, 0x80, 0x00]);
+        }
+        for way in ways {
+            for by_map in [false, true] {
+                let mut numbers = whole.clone();
+                numbers[place] = way.clone();
+                let case = class_data_of(op, &numbers, by_map);
+                for cut in 0..=way.len() {
+                    let mut case = case.clone();
+                    case.file.truncate(80 + place + cut);
+                    cases.push(case);
+                }
+                cases.push(case);
+            }
+        }
+    }
+    for instances in [1, 2] {
+        let mut numbers = short(&[0, instances, 1, 0]);
+        numbers[0] = vec![0xff, 0xff, 0xff, 0xff, 0x0f];
+        numbers.extend(short(&[7, 7, 0, 0, 48][4 - 2 * instances as usize..]));
+        cases.push(class_data_of(op, &numbers, false));
+    }
+    cases
 }
 
 /// const-string/jumbo with indices around powers of two, all of them wanted among many others, in falling order.

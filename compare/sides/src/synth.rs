@@ -205,7 +205,7 @@ pub fn made_up(rng: &mut Rng) -> Dex {
             let x = rng.below(300) as u64;
             some_leb(&mut file, x, rng);
             if rng.one_in(40) {
-                // More than five bytes: a field's number may have any length.
+                // More than five bytes.
                 let more = 1 + rng.below(6);
                 *file.last_mut().unwrap() |= 0x80;
                 file.extend(vec![0x80; more]);

@@ -16,7 +16,7 @@ use Rattle.dalvik.specs.Numbers.{le32}
 use Rattle.leb128.specs.Leb.{ulebFast, ulebLen}
 use Rattle.leb128.specs.declared.Uleb.the-variants as u
 use Rattle.leb128.specs.declared.Len.the-variants as l
-use Rattle.leb128.proofs.Laws.{fast-keeps}
+use Rattle.leb128.proofs.Published.{fast-in}
 use Rattle.refusal.specs.declared.Refusal.{Refusal}
 use Rattle.refusal.specs.declared.Refusal.the-variants.{MethodIndex}
 use Rattle.dalvik.specs.CodeItem.{insns-size}
@@ -95,11 +95,11 @@ module _ (s : List ℕ) (i m : ℕ) where
   head-no1 e = λ methods n. rw (← e)
 
   module _ {d a : ℕ} (e1 : u.Number d a ≡ ulebFast s i) where
-    pub head-index : word ≤ m + d % word → HeadRead s i m (h.Refused MethodIndex)
+    pub head-index : word ≤ m + d → HeadRead s i m (h.Refused MethodIndex)
     unfolding methodsFrom HeadRead
     head-index q = λ methods n. rw (← e1, le-ltb _ _ q)
 
-    module _ (q : m + d % word < word) where
+    module _ (q : m + d < word) where
       pub head-no2 : {y : Refusal} → u.Refused y ≡ ulebFast s (i + a) → HeadRead s i m (h.Refused y)
       unfolding methodsFrom HeadRead
       head-no2 e = λ methods n. rw (← e1, lt-ltb _ _ q, ← e)
@@ -110,12 +110,12 @@ module _ (s : List ℕ) (i m : ℕ) where
         head-no3 e = λ methods n. rw (← e1, lt-ltb _ _ q, ← e2, ← e)
 
         pub head-at : {v c : ℕ} → u.Number v c ≡ ulebFast s (i + a + b)
-            → HeadRead s i m (h.At (i + a + b + c) (m + d % word) (v % word))
+            → HeadRead s i m (h.At (i + a + b + c) (m + d) v)
         unfolding methodsFrom HeadRead
         head-at e3 =
-            let k1 = fast-keeps _ _ _ _ e1 in
-            let k2 = fast-keeps _ _ _ _ e2 in
-            let k3 = fast-keeps _ _ _ _ e3 in
+            let k1 = fast-in _ _ _ _ e1 in
+            let k2 = fast-in _ _ _ _ e2 in
+            let k3 = fast-in _ _ _ _ e3 in
             record { rest = λ methods n. rw (← e1, lt-ltb _ _ q, ← e2, ← e3); on = omega arith; inside = k3 .inside }
 
 module _ (s : List ℕ) (i m : ℕ) (r : Head) (q : HeadRead s i m r) where

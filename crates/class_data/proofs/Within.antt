@@ -1,6 +1,6 @@
 -- What the codes of a class data item keep to: the tests that a method passes hold of its code, and each method takes bytes of the file.
 -- Assumes nothing.
-use Prim.Native.Nat.{ℕ, zero, suc, _+_, _*_, _%_, _<_, _≤_}
+use Prim.Native.Nat.{ℕ, zero, suc, _+_, _*_, _<_, _≤_}
 use native.Mathlib.Omega.{arith}
 use mathlib.Core.Path.{_≡_, refl, sym, subst}
 use mathlib.Core.Bool.{_&&_}
@@ -15,7 +15,7 @@ use Rattle.leb128.specs.declared.Uleb.{Uleb}
 use Rattle.leb128.specs.declared.Uleb.the-variants as u
 use Rattle.leb128.specs.declared.Len.{Len}
 use Rattle.leb128.specs.declared.Len.the-variants as l
-use Rattle.leb128.proofs.Laws.{Reason, fast-keeps, fast-reason, len-in, len-reason}
+use Rattle.leb128.proofs.Published.{Reason, fast-in, fast-reason, len-in, len-reason}
 use Rattle.class_data.specs.Walk.{Walk, following, andOn, word, skipped, twoAt, onTwo, sizesAt, onSizes, onSkipped, methodsAt, onMethods}
 use Rattle.class_data.specs.Walk.{mostMethods, codeAt, codeInside, withMethod, methodsFrom, classDataAt}
 use Rattle.class_data.specs.Walk.Walk.{refused, found}
@@ -64,7 +64,7 @@ InsideR s (k.Refused r) = Reason r
 skipped-keeps : (n : ℕ) (s : List ℕ) (i : ℕ) → i ≤ length s → InsideR s (skipped n s i)
 unfolding skipped
 skipped-keeps zero s i q = q
-skipped-keeps (suc n) s i q = onLenP (InsideR s) (ulebLen s i) _ _ (len-reason s i) (λ m e. skipped-keeps n s (i + m) (len-in s i m e .1))
+skipped-keeps (suc n) s i q = onLenP (InsideR s) (ulebLen s i) _ _ (len-reason s i) (λ m e. skipped-keeps n s (i + m) (len-in s i m e .inside))
 
 -- ---- an item's first method stands inside
 abbrev TwoR : List ℕ → Two → Type 0
@@ -83,7 +83,7 @@ two-keeps : (s : List ℕ) (i : ℕ) → TwoR s (twoAt s i)
 unfolding twoAt
 two-keeps s i =
     onUlebP (TwoR s) (ulebFast s i) _ _ (fast-reason s i) (λ a j e₁.
-    onUlebP (TwoR s) (ulebFast s (i + j)) _ _ (fast-reason s (i + j)) (λ b l e₂. fast-keeps _ _ _ _ e₂ .inside))
+    onUlebP (TwoR s) (ulebFast s (i + j)) _ _ (fast-reason s (i + j)) (λ b l e₂. fast-in _ _ _ _ e₂ .inside))
 
 onTwoP : (s : List ℕ) (r : Two) (f : ℕ → ℕ → ℕ → Sizes) → TwoR s r → ((a b p : ℕ) → p ≤ length s → SizesR s (f a b p)) → SizesR s (onTwo r f)
 onTwoP s (n.At a b p) f x y = y a b p x
@@ -164,13 +164,13 @@ module _ (s : List ℕ) (m : ℕ) where
   methods-within zero i j q = record { each = tt; few = omega arith; inside = q }
   methods-within (suc n) i j q =
       onUlebP (WithinR s m i) (ulebFast s i) _ _ (λ _ _. tt) (λ d a e₁.
-      cond-elim (WithinR s m i) (ltb (j + d % word) word) _ _
+      cond-elim (WithinR s m i) (ltb (j + d) word) _ _
       (λ _. onUlebP (WithinR s m i) (ulebFast s (i + a)) _ _ (λ _ _. tt) (λ f b e₂.
       onUlebP (WithinR s m i) (ulebFast s (i + a + b)) _ _ (λ _ _. tt) (λ o c e₃.
-      let x = fast-keeps _ _ _ _ e₁ in
-      let y = fast-keeps _ _ _ _ e₂ in
-      let z = fast-keeps _ _ _ _ e₃ in
-      within-method i (i + a + b + c) (j + d % word) (o % word) _ (omega arith) (methods-within n (i + a + b + c) (j + d % word) (z .inside)))))
+      let x = fast-in _ _ _ _ e₁ in
+      let y = fast-in _ _ _ _ e₂ in
+      let z = fast-in _ _ _ _ e₃ in
+      within-method i (i + a + b + c) (j + d) o _ (omega arith) (methods-within n (i + a + b + c) (j + d) (z .inside)))))
       (λ _. tt))
 
   item-within : (r : Methods) (f : ℕ → ℕ → ℕ → Walk) → MethodsR s r → ((d v e : ℕ) → e ≤ length s → WithinR s m e (f d v e))

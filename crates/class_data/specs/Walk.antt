@@ -45,12 +45,12 @@ withNumber s i f = onNumber s i (λ r. refused r) f
 abbrev pub skippedTo : ℕ → Skipped
 skippedTo e = k.To e
 
--- the offset after n numbers, of any length
+-- the offset after n numbers
 unfoldable pub skipped : ℕ → List ℕ → ℕ → Skipped
 skipped zero s i = skippedTo i
 skipped (suc n) s i = onLen (ulebLen s i) (λ r. k.Refused r) (λ m. skipped n s (i + m))
 
--- field pairs, index differences and code offsets keep their low 32 bits, and index sums are below this
+-- the count of field pairs keeps its low 32 bits, and index sums are below this
 abbrev pub word : ℕ
 word = 2 ^ 32
 
@@ -111,10 +111,10 @@ unfoldable pub methodsFrom : ℕ → List ℕ → ℕ → ℕ → ℕ → Walk
 methodsFrom zero s methods i m = found [] i
 methodsFrom (suc n) s methods i m =
     withNumber s i (λ d a.
-    cond (ltb (m + d % word) word)
+    cond (ltb (m + d) word)
     (withNumber s a (λ _ b.
     withNumber s b (λ o c.
-    withMethod s methods (m + d % word) (o % word) (methodsFrom n s methods c (m + d % word)))))
+    withMethod s methods (m + d) o (methodsFrom n s methods c (m + d)))))
     (refused MethodIndex))
 
 -- the class data item at i: its direct methods, and then its virtual methods

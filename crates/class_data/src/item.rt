@@ -8,7 +8,7 @@ use leb128::Uleb;
 use refusal::Refusal;
 use structs::Read32;
 
-// Field pairs, index differences and code offsets are taken modulo this, and index sums are below it (`word` of specs/Walk.antt).
+// The count of field pairs is taken modulo this, and index sums are below it (`word` of specs/Walk.antt).
 const WORD: u64 = 4294967296;
 
 // Indices of methods with code are below this (`mostMethods` of specs/Walk.antt).
@@ -26,7 +26,7 @@ enum Skipped {
     Refused(Refusal),
 }
 
-// n numbers of any length.
+// n numbers.
 fn skip_numbers(buf: &[u8], pos: usize, n: u64) -> Skipped
     ensures { λ r. ⌜ r ≡ skipped n (now (buf .entry)) pos ⌝ }
 {
@@ -48,7 +48,7 @@ fn skip_numbers(buf: &[u8], pos: usize, n: u64) -> Skipped
 
 // Two numbers one after another, and the offset after them. Read here for class_sizes alone: with a second caller it would stay a call.
 enum Two {
-    At { first: u64, second: u64, pos: usize },
+    At { first: u32, second: u32, pos: usize },
     Refused(Refusal),
 }
 
@@ -78,8 +78,8 @@ fn read_two(buf: &[u8], pos: usize) -> Two
 enum Sizes {
     At {
         fields: u64,
-        direct: u64,
-        virt: u64,
+        direct: u32,
+        virt: u32,
         pos: usize,
     },
     Refused(Refusal),
@@ -101,7 +101,7 @@ fn class_sizes(buf: &[u8], pos: usize) -> Sizes
                     value: instances,
                     len: b,
                 } => {
-                    let fields = 2 * ((statics + instances) % WORD);
+                    let fields = 2 * ((statics as u64 + instances as u64) % WORD);
                     match read_two(buf, p + b) {
                         Two::Refused(r) => Sizes::Refused(r),
                         Two::At {
@@ -123,7 +123,7 @@ fn class_sizes(buf: &[u8], pos: usize) -> Sizes
 
 // How many direct and virtual methods a class data item has, and the offset of the first: the sizes read, the fields skipped.
 pub(crate) enum Methods {
-    At { direct: u64, virt: u64, pos: usize },
+    At { direct: u32, virt: u32, pos: usize },
     Refused(Refusal),
 }
 
@@ -163,7 +163,7 @@ fn method_head(buf: &[u8], pos: usize, idx: u32) -> Head
             value: diff,
             len: n,
         } => {
-            let sum = idx as u64 + diff % WORD;
+            let sum = idx as u64 + diff as u64;
             if WORD <= sum {
                 return Head::Refused(Refusal::MethodIndex);
             }
@@ -176,11 +176,10 @@ fn method_head(buf: &[u8], pos: usize, idx: u32) -> Head
                         Uleb::Refused(r) => Head::Refused(r),
                         Uleb::Number { value: off, len: k } => {
                             let next = q + k;
-                            let code = (off % WORD) as u32;
                             Head::At {
                                 pos: next,
                                 idx: sum as u32,
-                                code: code,
+                                code: off,
                             }
                         }
                     }

@@ -93,7 +93,7 @@ pub(crate) enum Walked {
 fn encoded_methods(
     buf: &[u8],
     methods: u32,
-    n: u64,
+    n: u32,
     pos: usize,
     count: usize,
     triples: &mut [u32],

@@ -10,7 +10,7 @@ use Rattle.words.specs.Padded.{padded, stretch}
 use Rattle.dalvik.specs.Numbers.{le16, le32}
 use Rattle.dalvik.specs.CodeItem.{Code}
 use Rattle.opcodes.specs.Length.{unitsOf}
-use Rattle.leb128.specs.Leb.{uleb, ulebFast, lenOf, ulebLen}
+use Rattle.leb128.specs.Leb.{uleb, ulebFast, ulebLen}
 use Rattle.class_data.specs.Walk.{skipped, twoAt, sizesAt, methodsAt, methodsFrom, classDataAt}
 use Rattle.class_data.specs.Codes.{successive, defined, entryFrom, mapEntry, codesOf}
 use Rattle.start_words.specs.Starts.{withStart, noStarts, startOf, hasStart}
@@ -60,7 +60,7 @@ record Answers : Type 0 where
 
 answers : Answers
 unfolding whole.file whole.header whole.worked shared.file shared.header shared.worked room file codes twice close
-    buildOut codesOf mapEntry entryFrom defined successive classDataAt methodsAt sizesAt twoAt methodsFrom skipped ulebFast uleb ulebLen lenOf
+    buildOut codesOf mapEntry entryFrom defined successive classDataAt methodsAt sizesAt twoAt methodsFrom skipped ulebFast uleb ulebLen
     le16 le32 triplesOf startsOf withStart noStarts startOf hasStart tableOf regionEnd place joined joinedSlot stretch padded
     scanOut kindOf hitsBy hitsIn isTried widthOf indexAt locateOut locateAll locateFrom slotAt firstOf walk walkIn step unitsOf listOut listed chain
 answers = record {

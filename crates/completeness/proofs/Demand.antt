@@ -80,7 +80,7 @@ module _ (s : List ℕ) (h : DexHeader) (codes : List Code) (P : Supposed s (h .
       rw (
         le-ltb largestFile (length s) (P .small),
         le-leb (h .methods .size) (L .build .starts) (R .starts),
-        codes-found h (P .bytes) (P .small) (P .found) (tested P) .1,
+        codes-found h (P .small) (P .found) (tested P) .1,
         le-leb (3 * length codes) (L .build .triples) (R .triples),
         le-leb (topOf codes - baseOf codes) (L .build .slots) (R .slots),
         le-leb (length (tableOf codes .shares)) (L .build .shares) (R .shares),

@@ -7,7 +7,7 @@ use mathlib.Core.List.{List, List·Memᴰ, List·Memᴰ·head, List·Memᴰ·tai
 use mathlib.Core.Option.{none, some}
 use lib.ListN.{length}
 use borrow.Author.Tests.{lt-ltb, le-ltb, le-leb, eq-eqb, ne-eqb}
-use Rattle.dalvik.specs.Numbers.{Bytes, Uleb128s}
+use Rattle.dalvik.specs.Numbers.{Uleb128s}
 use Rattle.dalvik.specs.MapList.{mapItemSize, classDataType, map-type, ClassDataEntry, NoClassDataEntry}
 use Rattle.dalvik.specs.MapList.ClassDataEntry.{this, later}
 use Rattle.dalvik.specs.CodeItem.{Code, insns-size}
@@ -22,9 +22,6 @@ use Rattle.class_data.specs.Walk.{word, twoAt, sizesAt, methodsAt, mostMethods,
 use Rattle.class_data.specs.Walk.Walk.{found}
 use Rattle.class_data.proofs.Published.{on, numbers-skipped}
 use Rattle.class_data.specs.Codes.{successive, defined, entryFrom, mapEntry, codesOf}
-
-low-bits : (v : ℕ) → v < word → v % word ≡ v
-low-bits v h = omega arith
 
 -- ---- field pairs: they are skipped, and are fewer than the file has bytes
 numbers-few : {s : List ℕ} {n i e : ℕ} → Uleb128s s n i e → i + n ≤ e
@@ -46,25 +43,23 @@ pub record Tested (s : List ℕ) (methods : ℕ) (c : Code) : Type 0 where
 abbrev pub AllTested : List ℕ → ℕ → List Code → Type 0
 AllTested s methods cs = (c : Code) → List·Memᴰ c cs → Tested s methods c
 
-module _ (s : List ℕ) (B : Bytes s) (methods : ℕ) where
+module _ (s : List ℕ) (methods : ℕ) where
   methods-found : {n i m e : ℕ} {cs : List Code} → EncodedMethods s n i m cs e → AllTested s methods cs → methodsFrom n s methods i m ≡ found cs e
   unfolding methodsFrom
   methods-found EncodedMethods.no-more t = refl
   methods-found (without-code {m = m} {d = d} u h f o r) t =
-      rw (fast-published B u, on u, low-bits d (u .fits), lt-ltb (m + d) word h, fast-published B f, on f, fast-published B o, on o)
+      rw (fast-published u, on u, lt-ltb (m + d) word h, fast-published f, on f, fast-published o, on o)
       (methods-found r t)
   methods-found (with-code {n = n} {m = m} {d = d} {c = c} {o = o} {cs = cs} u h f w z r) t =
       let k : Tested s methods (codeAt s (m + d) o) = t (codeAt s (m + d) o) (List·Memᴰ·head refl) in
       rw (
-        fast-published B u,
+        fast-published u,
         on u,
-        low-bits d (u .fits),
         lt-ltb (m + d) word h,
-        fast-published B f,
+        fast-published f,
         on f,
-        fast-published B w,
+        fast-published w,
         on w,
-        low-bits o (w .fits),
         ne-eqb o 0 z,
         lt-ltb (m + d) methods (k .below),
         lt-ltb (m + d) mostMethods (k .small),
@@ -80,23 +75,23 @@ module _ (s : List ℕ) (B : Bytes s) (methods : ℕ) where
     unfolding classDataAt methodsAt sizesAt twoAt
     class-data-found {i} {e} {cs} D t =
         rw (
-          fast-published B (D .size-statics),
+          fast-published (D .size-statics),
           on (D .size-statics),
-          fast-published B (D .size-instances),
+          fast-published (D .size-instances),
           on (D .size-instances),
-          fast-published B (D .size-directs),
+          fast-published (D .size-directs),
           on (D .size-directs),
-          fast-published B (D .size-virtuals),
+          fast-published (D .size-virtuals),
           on (D .size-virtuals),
-          low-bits (D .static-fields-size + D .instance-fields-size) few,
+          pairs,
           numbers-skipped (D .fields),
           methods-found (D .direct) (λ x y. t x (rw (← D .all) (Memᴰ·append-left (D .in-virtuals) y))),
           methods-found (D .virtual) (λ x y. t x (rw (← D .all) (Memᴰ·append-right (D .in-directs) y))),
         )
         (ap (λ (l : List Code). found l e) (D .all))
       where
-        few : D .static-fields-size + D .instance-fields-size < word
-        few = omega (arith, numbers-few (D .fields), numbers-inside (D .fields) (ends-inside (D .size-virtuals .number)))
+        pairs : (D .static-fields-size + D .instance-fields-size) % word ≡ D .static-fields-size + D .instance-fields-size
+        pairs = omega (arith, numbers-few (D .fields), numbers-inside (D .fields) (ends-inside (D .size-virtuals .number)))
 
     successive-found : {n i : ℕ} {cs : List Code} → Successive s n i cs → AllTested s methods cs → (e : ℕ) × (successive n s methods i ≡ found cs e)
     unfolding successive
@@ -134,16 +129,16 @@ no-entry-found NoClassDataEntry.no-more = refl
 no-entry-found {s} (NoClassDataEntry.one-more {i = i} h q r) =
     rw (le-leb (i + mapItemSize) (length s) h, ne-eqb (map-type s i) classDataType q) (no-entry-found r)
 
-pub codes-found : {s : List ℕ} (h : DexHeader) {cs : List Code} → Bytes s → length s ≤ largestFile
+pub codes-found : {s : List ℕ} (h : DexHeader) {cs : List Code} → length s ≤ largestFile
     → CodesOf s (h .mapoff) (h .classes .off) (h .classes .size) cs → AllTested s (h .methods .size) cs
     → (e : ℕ) × (codesOf s h ≡ found cs e)
 unfolding codesOf mapEntry
-codes-found {s} h B small (by-map z l E S) t =
-    let o = successive-found s B (h .methods .size) small S t in
+codes-found {s} h small (by-map z l E S) t =
+    let o = successive-found s (h .methods .size) small S t in
     (o .0, rw (ne-eqb (h .mapoff) 0 z, le-ltb (length s) (h .mapoff + 4) l, entry-found E) (o .1))
-codes-found {s} h B small (without-entry z l E D) t =
-    let o = defined-found s B (h .methods .size) small D t in
+codes-found {s} h small (without-entry z l E D) t =
+    let o = defined-found s (h .methods .size) small D t in
     (o .0, rw (ne-eqb (h .mapoff) 0 z, le-ltb (length s) (h .mapoff + 4) l, no-entry-found E) (o .1))
-codes-found {s} h B small (without-map z D) t =
-    let o = defined-found s B (h .methods .size) small D t in
+codes-found {s} h small (without-map z D) t =
+    let o = defined-found s (h .methods .size) small D t in
     (o .0, rw (eq-eqb (h .mapoff) 0 z) (o .1))

@@ -67,7 +67,7 @@ module _ (s : List ℕ) (h : DexHeader) (codes : List Code) (P : Supposed s (h .
       rw (le-ltb largestFile (length s) (P .small)) at n in
       let a : leb m (L .build .starts) ≡ true = passed (λ (B : Build). B .number) (leb m (L .build .starts)) _ _ refl n₁ in
       let n₂ : cond fits (wholeBuild (length s) m codes) (noBuild 4) .number ≢ 4 =
-      rw (a, codes-found h (P .bytes) (P .small) (P .found) (tested P) .1) at n₁ in
+      rw (a, codes-found h (P .small) (P .found) (tested P) .1) at n₁ in
       holds-table (passed (λ (B : Build). B .number) fits (wholeBuild (length s) m codes) (noBuild 4) refl n₂) (leb-true m (L .build .starts) a)
 
   pub scan-holds : scannedOf s kind wanted L (wholeBuild (length s) m codes) .number ≢ 4

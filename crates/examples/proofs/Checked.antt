@@ -1,7 +1,7 @@
 -- Each example holds by computation.
 -- Assumes nothing.
 use mathlib.Core.Path.{refl}
-use Rattle.leb128.specs.Leb.{ulebFast, uleb, ulebLen, lenOf}
+use Rattle.leb128.specs.Leb.{ulebFast, uleb, ulebLen}
 use Rattle.string_data.specs.Text.{stringText, afterLength, textFrom, firstZero, zeroOf}
 use Rattle.dalvik.specs.Numbers.{le16, le32}
 use Rattle.groups.specs.Groups.{idsWhere, joined, tabulate}
@@ -18,10 +18,12 @@ use Rattle.code_item_scan.specs.Scan.{scanOut, hitsBy, hitsIn, isTried, indexAt
 use Rattle.examples.specs.Table.{Table}
 
 pub checked : Table
-unfolding ulebFast uleb ulebLen lenOf lengthRead unitsOf stringText afterLength textFrom firstZero zeroOf le16 le32 idsWhere joined tabulate groupsOf stretchOf scanOut kindOf hitsBy hitsIn isTried widthOf indexAt stretch joinedSlot place tableOf chain listed listOut joinedShare owner
+unfolding ulebFast uleb ulebLen lengthRead unitsOf stringText afterLength textFrom firstZero zeroOf le16 le32 idsWhere joined tabulate groupsOf stretchOf scanOut kindOf hitsBy hitsIn isTried widthOf indexAt stretch joinedSlot place tableOf chain listed listOut joinedShare owner
 checked = record {
   two-bytes = refl;
+  greatest = refl;
   five-bytes = refl;
+  four-of-five = refl;
   six-bytes = refl;
   longest-length = refl;
   length-overflow = refl;

@@ -5,8 +5,9 @@ use mathlib.Core.Path.{_≡_}
 use mathlib.Core.List.{List, [], _∷_}
 use lib.ListN.{length, getD}
 use Rattle.leb128.specs.Leb.{ulebFast, ulebLen}
-use Rattle.leb128.specs.declared.Uleb.the-variants.{Number}
-use Rattle.leb128.specs.declared.Len.the-variants.{Bytes}
+use Rattle.refusal.specs.declared.Refusal.the-variants.{NumberOutside, NumberTooLong}
+use Rattle.leb128.specs.declared.Uleb.the-variants.{Number, Refused}
+use Rattle.leb128.specs.declared.Len.the-variants.{Refused as NoLength}
 use Rattle.string_data.specs.Text.{stringText, found, none}
 use Rattle.dalvik.specs.Ids.{type-descriptor-idx}
 use Rattle.groups.specs.Built.{GroupWords, groupsOf}
@@ -51,10 +52,12 @@ fourSevenNine = onOneItem 4 ∷ onOneItem 7 ∷ onOneItem 9 ∷ []
 pub record Table : Type 0 where
   -- 80 7f is 16256 in 2
   pub two-bytes : ulebFast (0x80 ∷ 0x7f ∷ []) 0 ≡ Number 16256 2
-  -- ff ff ff ff 7f is 34359738367 in 5
-  pub five-bytes : ulebFast (0xff ∷ 0xff ∷ 0xff ∷ 0xff ∷ 0x7f ∷ []) 0 ≡ Number 34359738367 5
-  -- the length of 80 80 80 80 80 00 is 6
-  pub six-bytes : ulebLen (0x80 ∷ 0x80 ∷ 0x80 ∷ 0x80 ∷ 0x80 ∷ 0x00 ∷ []) 0 ≡ Bytes 6
+  -- ff ff ff ff 0f is 4294967295 in 5; 7f for 0f does not fit, which is told once that byte is there
+  pub greatest : ulebFast (0xff ∷ 0xff ∷ 0xff ∷ 0xff ∷ 0x0f ∷ []) 0 ≡ Number 4294967295 5
+  pub five-bytes : ulebFast (0xff ∷ 0xff ∷ 0xff ∷ 0xff ∷ 0x7f ∷ []) 0 ≡ Refused NumberTooLong
+  pub four-of-five : ulebFast (0xff ∷ 0xff ∷ 0xff ∷ 0xff ∷ []) 0 ≡ Refused NumberOutside
+  -- 80 80 80 80 80 00 has no length: it is too long
+  pub six-bytes : ulebLen (0x80 ∷ 0x80 ∷ 0x80 ∷ 0x80 ∷ 0x80 ∷ 0x00 ∷ []) 0 ≡ NoLength NumberTooLong
   -- length ff ff ff ff 0f with a zero after is the empty string; 10 for 0f is refused
   pub longest-length : stringText (0xff ∷ 0xff ∷ 0xff ∷ 0xff ∷ 0x0f ∷ 0x00 ∷ []) 0 ≡ found 5 0
   pub length-overflow : stringText (0xff ∷ 0xff ∷ 0xff ∷ 0xff ∷ 0x10 ∷ 0x00 ∷ []) 0 ≡ none 10

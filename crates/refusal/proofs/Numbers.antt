@@ -8,7 +8,7 @@ use borrow.Author.Tests.{ne-eqb}
 use Rattle.refusal.specs.declared.Refusal.{Refusal}
 use Rattle.refusal.specs.declared.Refusal.the-variants.{FileTooLarge, UnknownKind, TableOutside, LentTooShort, StringOutside, NumberOutside}
 use Rattle.refusal.specs.declared.Refusal.the-variants.{MethodIndex, CodeOutside, BadQuery, LengthOverflow, NotAscii, RegionOutside}
-use Rattle.refusal.specs.declared.Refusal.the-variants.{StringIndex, BadRequest, LentTable}
+use Rattle.refusal.specs.declared.Refusal.the-variants.{StringIndex, BadRequest, LentTable, NumberTooLong}
 use Rattle.refusal.specs.Refusals.{refusalNumber}
 
 pub some-number : (r : Refusal) → refusalNumber r ≡ 0 → ⊥
@@ -27,6 +27,7 @@ some-number RegionOutside e = omega arith
 some-number StringIndex e = omega arith
 some-number BadRequest e = omega arith
 some-number LentTable e = omega arith
+some-number NumberTooLong e = omega arith
 
 pub numbered : (r : Refusal) → eqb (refusalNumber r) 0 ≡ false
 numbered r = ne-eqb (refusalNumber r) 0 (some-number r)

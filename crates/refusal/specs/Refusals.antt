@@ -6,7 +6,7 @@ use lib.Dec.{ltb}
 use Rattle.refusal.specs.declared.Refusal.{Refusal}
 use Rattle.refusal.specs.declared.Refusal.the-variants.{FileTooLarge, UnknownKind, TableOutside, LentTooShort, StringOutside}
 use Rattle.refusal.specs.declared.Refusal.the-variants.{NumberOutside, MethodIndex, CodeOutside, BadQuery, LengthOverflow}
-use Rattle.refusal.specs.declared.Refusal.the-variants.{NotAscii, RegionOutside, StringIndex, BadRequest, LentTable}
+use Rattle.refusal.specs.declared.Refusal.the-variants.{NotAscii, RegionOutside, StringIndex, BadRequest, LentTable, NumberTooLong}
 use Rattle.refusal.specs.declared.Answer.{Answer}
 use Rattle.refusal.specs.declared.Answer.the-variants.{Done, Refused}
 
@@ -26,6 +26,7 @@ refusalNumber RegionOutside = 12
 refusalNumber StringIndex = 13
 refusalNumber BadRequest = 14
 refusalNumber LentTable = 15
+refusalNumber NumberTooLong = 16
 
 -- the number of an answer: 0 for success
 abbrev pub answerNumber : Answer → ℕ

@@ -34,6 +34,8 @@ pub enum Refusal {
     BadRequest,
     // A lent table does not hold what is needed of it.
     LentTable,
+    // A number does not fit 32 bits.
+    NumberTooLong,
 }
 
 // What an operation over lent words answers: how many words its result has, or why it refused.
@@ -62,6 +64,7 @@ pub fn number(r: Refusal) -> u32
         Refusal::StringIndex => 13,
         Refusal::BadRequest => 14,
         Refusal::LentTable => 15,
+        Refusal::NumberTooLong => 16,
     }
 }
 

@@ -1,7 +1,7 @@
 -- Room for the code table of any file. A code found lies inside the file and after 16 header bytes, so its blocks are among those from 1 up
 -- to the file's last; a code adds one share at most; and the walk over class data has no refusal of its own for room.
 -- Assumes nothing.
-use Prim.Native.Nat.{ℕ, zero, suc, _+_, _-_, _*_, _/_, _%_, _^_, _≤_, min}
+use Prim.Native.Nat.{ℕ, zero, suc, _+_, _-_, _*_, _/_, _^_, _≤_, min}
 use native.Mathlib.Omega.{arith}
 use mathlib.Core.Path.{_≡_, refl}
 use mathlib.Core.Logic.{_≢_}
@@ -22,7 +22,7 @@ use Rattle.dalvik.specs.ClassData.{classDefSize, class-data-off}
 use Rattle.leb128.specs.Leb.{ulebFast, onUleb}
 use Rattle.leb128.specs.declared.Uleb.{Uleb}
 use Rattle.leb128.specs.declared.Uleb.the-variants as u
-use Rattle.leb128.proofs.Laws.{reason-number, fast-reason}
+use Rattle.leb128.proofs.Published.{reason-number, fast-reason}
 use Rattle.class_data.specs.Walk.{Walk, following, andOn, word, mostMethods, codeAt, codeInside, withMethod, methodsFrom, classDataAt}
 use Rattle.class_data.specs.Walk.Walk.{refused, found}
 use Rattle.class_data.specs.Stored.{firstBucket}
@@ -76,7 +76,7 @@ by-number (u.Refused y) f a g = a y refl
 
 -- a reader has its own reasons
 reads : (s : List ℕ) (i : ℕ) (f : ℕ → ℕ → Walk) → ((v n : ℕ) → Not (f v n)) → Not (onUleb (ulebFast s i) (λ y. refused y) f)
-reads s i f g = by-number (ulebFast s i) f (λ y e. reason-number y (fast-reason s i y e)) g
+reads s i f g = by-number (ulebFast s i) f (λ y e. reason-number (fast-reason s i y e)) g
 
 following-not : (cs : List Code) (w : Walk) → Not w → Not (following cs w)
 following-not cs (refused r) n = n
@@ -100,14 +100,14 @@ module _ (s : List ℕ) (m : ℕ) where
   methods-not zero i j = tt
   methods-not (suc n) i j =
       reads s i _ (λ d x.
-      cond-elim Not (ltb (j + d % word) word) _ (refused MethodIndex)
+      cond-elim Not (ltb (j + d) word) _ (refused MethodIndex)
       (λ _. reads s (i + x) _ (λ _ y. reads s (i + x + y) _ (λ o z.
-      method-not (j + d % word) (o % word) _ (methods-not n (i + x + y + z) (j + d % word)))))
+      method-not (j + d) o _ (methods-not n (i + x + y + z) (j + d)))))
       (λ _ e. omega arith))
 
   class-not : (i : ℕ) → Not (classDataAt s m i)
   class-not i =
-      class-any s m i Not (λ y e. reason-number y e) (λ directs virtuals p.
+      class-any s m i Not (λ y e. reason-number e) (λ directs virtuals p.
       on-not (methodsFrom directs s m p 0) _ (methods-not directs p 0) (λ f. methods-not virtuals f 0))
 
   successive-not : (n i : ℕ) → Not (successive n s m i)

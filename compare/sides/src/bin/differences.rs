@@ -109,6 +109,8 @@ fn main() {
         ("name filter, a query that is not ASCII", Answers, 9, names(b"", "\u{e4}")),
         ("name filter, a text that is not ASCII", Answers, 11, names(&[0x80], "a")),
         ("code table, a class definition of 27 bytes", Panics, 3, table(CODE_TABLE, 11, |c| c.file = vec![0; 27])),
+        ("code table, a method's flags 80 80 80 80 10", Answers, 16, class_data(48, &[0, 0, 1, 0, 0, 128, 128, 128, 128, 16, 0])),
+        ("code table, a field's number of six bytes", Answers, 16, class_data(48, &[1, 0, 0, 0, 128, 128, 128, 128, 128, 0, 0])),
         ("code table, class data of one byte", Panics, 6, class_data(33, &[0])),
         ("code table, a method index that is not below the count", Panics, 7, class_data(60, &[0, 0, 1, 0, 1, 0, 44])),
         ("code table, a method index of 16,777,216", Answers, 7, {

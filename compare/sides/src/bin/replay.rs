@@ -15,6 +15,9 @@ const DOMAIN: usize = 240;
 const EACH_REFUSAL: usize = 12;
 const BYTES: usize = 68_000;
 
+/// One more than the greatest refusal.
+const REFUSALS: usize = 17;
+
 fn main() {
     let args: Vec<String> = std::env::args().collect();
     let [_, folder, sample] = &args[..] else { panic!("usage: replay FOLDER SAMPLE") };
@@ -22,7 +25,7 @@ fn main() {
     let inputs = Inputs::new(SEED, Path::new(sample), Path::new("no larger files"));
     let (mut cases, mut lines, mut count) = (Vec::new(), String::new(), 0u32);
     for op in TYPE_GROUPS..=NAME_SLICE {
-        let (mut domain, mut answered, mut refusals) = (0, 0, [0; 16]);
+        let (mut domain, mut answered, mut refusals) = (0, 0, [0; REFUSALS]);
         let mut seen: HashSet<String> = HashSet::new();
         let mut bytes = 0;
         for index in 0..200_000u64 {
@@ -56,7 +59,7 @@ fn main() {
             lines += &line;
             lines.push('\n');
         }
-        let by: Vec<String> = (0..16).filter(|&n| refusals[n] > 0).map(|n| format!("{n}: {}", refusals[n])).collect();
+        let by: Vec<String> = (0..REFUSALS).filter(|&n| refusals[n] > 0).map(|n| format!("{n}: {}", refusals[n])).collect();
         println!("{:17} {domain} answers, {answered} by SPEC alone, refusals {}; {bytes} bytes", OPS[op as usize - 1], by.join(", "));
     }
     let folder = Path::new(folder);

@@ -2,7 +2,7 @@
 -- Assumes nothing.
 use Rattle.class_data.proofs.Laws.{skipped-again, skipped-no, skipped-end}
 use Rattle.class_data.specs.Walk.{skipped}
-use Rattle.leb128.proofs.Laws.{len-in}
+use Rattle.leb128.proofs.Published.{len-in}
 use Rattle.words.proofs.Shared.{met}
 use mathlib.Core.Path.{_≡_}
 use borrow.Author.Needs.{needs}
@@ -28,7 +28,7 @@ enum-known-m c = search needs
 add-at : tie.Need-add-at Inv-loop μ-loop
 add-at c =
     let at-m = c .before in
-    omega (arith, len-in _ _ _ (met (at-m .m .given .1) (at-m .before .before .read-uleb128-len .ensures)))
+    omega (arith, len-in _ _ _ (met (at-m .m .given .1) (at-m .before .before .read-uleb128-len .ensures .0)))
 
 sub-left : tie.Need-sub-left Inv-loop μ-loop
 sub-left c = search needs
@@ -40,7 +40,7 @@ loop-again : tie.Need-loop-again Inv-loop μ-loop
 loop-again c =
     let at-m = c .before in
     let at-read = at-m .before .before in
-    skipped-again _ _ _ (omega arith) (met (at-m .m .given .1) (at-read .read-uleb128-len .ensures)) (at-read .before .before .loop .inv)
+    skipped-again _ _ _ (omega arith) (met (at-m .m .given .1) (at-read .read-uleb128-len .ensures .0)) (at-read .before .before .loop .inv)
 
 enum-known-r : tie.Need-enum-known-r Inv-loop μ-loop
 enum-known-r c = search needs
@@ -49,7 +49,7 @@ returns : tie.Need-returns Inv-loop μ-loop
 returns c =
     let at-r = c .before in
     let at-read = at-r .before .before in
-    skipped-no _ _ _ (omega arith) (met (at-r .r .given .1) (at-read .read-uleb128-len .ensures)) (at-read .before .before .loop .inv)
+    skipped-no _ _ _ (omega arith) (met (at-r .r .given .1) (at-read .read-uleb128-len .ensures .0)) (at-read .before .before .loop .inv)
 
 returns-2 : tie.Need-returns-2 Inv-loop μ-loop
 returns-2 c = skipped-end _ _ _ (omega arith) (c .before .loop .inv)
