@@ -1,4 +1,4 @@
--- The readers' definitions, a law for each way out of them: a byte below 128 ends a number, any other goes on with the next, and a fifth
+-- The number's definition, a law for each way out of them: a byte below 128 ends a number, any other goes on with the next, and a fifth
 -- byte ends it or is too much.
 -- Assumes nothing.
 use Prim.Native.Nat.{ℕ, zero, suc, _+_, _<_, _≤_}
@@ -7,12 +7,10 @@ use mathlib.Core.List.{List}
 use lib.ListN.{length}
 use borrow.Author.Tests.{lt-ltb, le-ltb}
 use Rattle.structs.specs.Reads.{ByteAt}
-use Rattle.refusal.specs.declared.Refusal.{Refusal}
 use Rattle.refusal.specs.declared.Refusal.the-variants.{NumberOutside, NumberTooLong}
-use Rattle.leb128.specs.Leb.{uleb, ulebFast, carry, bytesOf, ulebLen}
+use Rattle.leb128.specs.Leb.{uleb, carry}
 use Rattle.leb128.specs.declared.Uleb.{Uleb}
 use Rattle.leb128.specs.declared.Uleb.the-variants as u
-use Rattle.leb128.specs.declared.Len.the-variants as l
 
 module _ (s : List ℕ) (i : ℕ) where
   pub off : (k : ℕ) → length s ≤ i → u.Refused NumberOutside ≡ uleb k s i
@@ -39,13 +37,3 @@ module _ (s : List ℕ) (i : ℕ) where
 
 pub num : (v w n : ℕ) (r : Uleb) → v ≡ w → u.Number w n ≡ r → u.Number v n ≡ r
 num v w n r e f = ap (λ (x : ℕ). u.Number x n) e ∙ f
-
--- ---- the length is that of the number
-module _ (s : List ℕ) (i : ℕ) where
-  pub len-number : (v n : ℕ) → u.Number v n ≡ ulebFast s i → l.Bytes n ≡ ulebLen s i
-  unfolding ulebLen
-  len-number v n e = ap bytesOf e
-
-  pub len-refused : (r : Refusal) → u.Refused r ≡ ulebFast s i → l.Refused r ≡ ulebLen s i
-  unfolding ulebLen
-  len-refused r e = ap bytesOf e

@@ -164,7 +164,8 @@ module _ (s : List ℕ) (i : ℕ) where
     unfolding ulebFast
     fast r e = (e, record { stands = λ v n q. fast-uleb v n (q ∙ e); accepted = λ v x n. e ∙ fast-published n })
 
-    pub len : (r : Len) → r ≡ ulebLen s i → (r ≡ ulebLen s i) × PublishedLen s i r
+    pub len : (r : Len) → r ≡ bytesOf (ulebFast s i) → (r ≡ ulebLen s i) × PublishedLen s i r
+    unfolding ulebLen
     len r e = (
       e,
       record {
