@@ -191,8 +191,8 @@ uint32_t ringlinden_name_filter(const uint8_t *file, size_t file_len, const uint
  * The code table. starts: a word for each method, where its code begins, 0 without code; triples: three words for each of the *codes codes
  * found, first 16-byte block, last, and method; slots: *slot_count words, one for each block of the region, 0, or method + 1, or
  * 2^31 + number of a share; shares: *share_count words, three for each share; the region is file[*region_start .. *region_end],
- * whole blocks, so that it may end after the file. Refusals: 1; 4, fewer start words than methods; then as the class data are
- * read 3, 6, 16, 7, 8; 4, one of the others is too short.
+ * whole blocks, but that it ends with the file where its last block sticks out: ringlinden_scan over it is never refused 12.
+ * Refusals: 1; 4, fewer start words than methods; then as the class data are read 3, 6, 16, 7, 8; 4, one of the others is too short.
  */
 uint32_t ringlinden_code_table(const uint8_t *file, size_t file_len, const uint32_t header[13],
                                uint32_t *starts, size_t starts_len, uint32_t *triples, size_t triples_len,
@@ -228,8 +228,8 @@ uint32_t ringlinden_list_slot(const uint32_t *shares, size_t shares_len, uint32_
 /*
  * Code table, scan of its region and locate in one. starts, triples, slots and shares as of ringlinden_code_table, offs and marks as of
  * ringlinden_scan, answers as of ringlinden_locate; further: a word for each method, however many start words are lent. *hits words of
- * offs, marks and answers are the result. Refusals: those of the three, in their order. For a file as published and lent outputs
- * that suffice no instruction is missing: crates/findrefs has the statement.
+ * offs, marks and answers are the result. Refusals: those of the three, in their order, but never 12. For a file as published and lent
+ * outputs that suffice no instruction is missing: crates/findrefs has the statement.
  */
 uint32_t ringlinden_find(const uint8_t *file, size_t file_len, const uint32_t header[13], uint32_t kind,
                          const uint32_t *wanted, size_t wanted_len, uint32_t *starts, size_t starts_len,

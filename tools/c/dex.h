@@ -11,7 +11,7 @@ static uint8_t *file;
 static size_t file_len;
 static uint32_t header[13];
 
-enum { STRINGS = 0, TYPES = 2, METHODS = 8 }; /* places of a table's offset in the header; its size stands after it */
+enum { STRINGS = 0, TYPES = 2, METHODS = 8, CLASSES = 10 }; /* places of a table's offset in the header; its size stands after it */
 
 /* four bytes of the file, 0 past its end */
 static inline uint32_t word(size_t at)

@@ -5,8 +5,10 @@
  *                            number, the out numbers and the lent words are those of the same call with pointers that are not null
  *     probe stack FILE.dex   how many bytes down its stack each function writes, over FILE.dex and over made up files of 3,000, 100,000 and
  *                            4,000,000 strings: it is called on a stack of its own that holds a pattern
+ *     probe region FILE      FILE is SPEC's whole case, which is cut at every length from its array's end on: its region ends with the file and
+ *                            is scanned, and a region that is a byte longer is refused 12, with zeros
  *
- * A line for each function; exit status 1 where two calls differ.
+ * A line for each function, or for each length; exit status 1 where two calls differ, or an answer is another.
  */
 #define _XOPEN_SOURCE 600
 #include "dex.h"
@@ -402,12 +404,43 @@ static int stacks(const char *name)
     return 0;
 }
 
+/* ---- the region's end */
+
+static int regions(const char *name)
+{
+    const uint32_t wanted[1] = { 5 };
+    uint32_t starts[1], triples[3], slots[5], shares[3], offs[9], marks[9], further[1], answers[9];
+    size_t start, end, codes, slot_count, share_count, hits, past, found;
+    int bad = 0;
+    read_file(name);
+    memset(header, 0, sizeof header);
+    header[METHODS + 1] = header[CLASSES + 1] = 1;
+    for (file_len = 72; file_len <= 80; file_len++) {
+        int ok = !ringlinden_code_table(file, file_len, header, starts, 1, triples, 3, slots, 5, shares, 3, &start, &end, &codes, &slot_count,
+                                        &share_count);
+        ok = ok && start == 64 && end == file_len && slot_count == 1;
+        ok = ok && !ringlinden_scan(file, file_len, (uint32_t)start, (uint32_t)end, RINGLINDEN_STRING, wanted, 1, offs, 9, marks, 9, &hits);
+        ok = ok && hits == 1 && offs[0] == 64 && marks[0] == 5;
+        ok = ok && ringlinden_scan(file, file_len, (uint32_t)start, (uint32_t)end + 1, RINGLINDEN_STRING, wanted, 1, offs, 9, marks, 9, &past)
+            == RINGLINDEN_REGION_OUTSIDE;
+        ok = ok && past == 0 && offs[0] == 0 && marks[0] == 0;
+        ok = ok && !ringlinden_find(file, file_len, header, RINGLINDEN_STRING, wanted, 1, starts, 1, triples, 3, slots, 5, shares, 3, offs, 9,
+                                    marks, 9, further, 1, answers, 9, &start, &end, &found);
+        ok = ok && end == file_len && found == 1 && offs[0] == 64 && answers[0] == 1;
+        printf("%lu bytes: %s\n", (unsigned long)file_len, ok ? "the region ends with them, one byte more is refused" : "OTHERWISE");
+        bad |= !ok;
+    }
+    return bad;
+}
+
 int main(int argc, char **argv)
 {
     if (argc == 3 && !strcmp(argv[1], "nulls"))
         return nulls(argv[2]);
     if (argc == 3 && !strcmp(argv[1], "stack"))
         return stacks(argv[2]);
-    fprintf(stderr, "usage: probe nulls|stack FILE.dex\n");
+    if (argc == 3 && !strcmp(argv[1], "region"))
+        return regions(argv[2]);
+    fprintf(stderr, "usage: probe nulls|stack|region FILE\n");
     return 2;
 }

@@ -676,8 +676,8 @@ fn lend(case: &mut Case, rng: &mut Rng) {
 }
 
 /// The cases of every run, however few it makes: a file of the greatest length and one of a byte more, which every operation
-/// refuses (1); a method index at its limit, and padded numbers in each place of class data; name filters around the sizes at which ours
-/// changes its tables, and above all of them.
+/// refuses (1); a method index at its limit, and padded numbers in each place of class data; code at a file's end; name filters around the
+/// sizes at which ours changes its tables, and above all of them.
 pub fn always(op: u32) -> Vec<Case> {
     let mut cases: Vec<Case> = [LARGEST, LARGEST + 1].into_iter().flat_map(|n| at_length(op, n)).collect();
     match op {
@@ -685,9 +685,16 @@ pub fn always(op: u32) -> Vec<Case> {
         CODE_TABLE => {
             cases.extend([16_777_215, 16_777_216].map(greatest_method));
             cases.extend(padded_numbers(op));
+            cases.extend(code_at_the_end(op));
         }
-        FIND => cases.extend(padded_numbers(op)),
-        SCAN => cases.push(great_indices()),
+        FIND => {
+            cases.extend(padded_numbers(op));
+            cases.extend(code_at_the_end(op));
+        }
+        SCAN => {
+            cases.push(great_indices());
+            cases.extend(code_at_the_end(op));
+        }
         _ => {}
     }
     cases
@@ -829,6 +836,50 @@ fn padded_numbers(op: u32) -> Vec<Case> {
         numbers[0] = vec![0xff, 0xff, 0xff, 0xff, 0x0f];
         numbers.extend(short(&[7, 7, 0, 0, 48][4 - 2 * instances as usize..]));
         cases.push(class_data_of(op, &numbers, false));
+    }
+    cases
+}
+
+/// One method, whose array ends with a use of index 5, and a file that is cut a byte before the array's end, ends with it, or goes on for up to
+/// 17 bytes: so the array's last block is whole, sticks out by any number of bytes, or stands before others. Code offsets are any, though a
+/// published one is a multiple of 4. A scan is over the region as SPEC has it, and over one that is a byte longer than the file.
+fn code_at_the_end(op: u32) -> Vec<Case> {
+    let uses: [&[u8]; 5] = [
+        &[0x1a, 0, 5, 0],
+        &[0x1b, 0, 5, 0, 0, 0],
+        &[0x22, 0, 5, 0],
+        &[0x52, 0, 5, 0],
+        &[0x6e, 0x10, 5, 0, 0, 0],
+    ];
+    let mut cases = Vec::new();
+    for (code, (last, kind)) in (48..64).flat_map(|code| uses.iter().zip([1, 1, 2, 3, 4]).map(move |u| (code, u))) {
+        let start = code + 16;
+        let stop = start + 2 + last.len();
+        for len in stop - 1..=stop + 17 {
+            let mut case = Case::new(op);
+            case.file = vec![0; start];
+            case.file[24] = 32;
+            case.file[32..39].copy_from_slice(&[0, 0, 1, 0, 0, 0, code as u8]);
+            case.file[code + 12] = ((stop - start) / 2) as u8;
+            case.file.extend([0x0e, 0]);
+            case.file.extend(*last);
+            case.file.resize(len, 0);
+            case.lent = [16; 8];
+            case.lists[0] = vec![5];
+            if op == SCAN {
+                for end in [(stop.div_ceil(16) * 16).min(len), len + 1] {
+                    case.numbers[13..].copy_from_slice(&[(start / 16 * 16) as u32, end as u32, kind]);
+                    cases.push(case.clone());
+                }
+                continue;
+            }
+            (case.numbers[9], case.numbers[11], case.numbers[13]) = (1, 1, kind);
+            if op == CODE_TABLE {
+                case.numbers[13] = 0;
+                case.lists[0].clear();
+            }
+            cases.push(case);
+        }
     }
     cases
 }

@@ -52,6 +52,10 @@ pub fn expected(case: &Case) -> Expected {
     if case.op == case::LIST_SLOT && document.outs[0].first().is_some_and(|&m| m >= 1 << 16) {
         return Expected::Off(document);
     }
+    // A region that ends with the file, in the middle of a block: the Rust's ends with the block, which its scanner panics on.
+    if matches!(case.op, case::CODE_TABLE | case::FIND) && document.numbers[1] % 16 != 0 {
+        return Expected::Off(document);
+    }
     match theirs::answer(case) {
         Some(theirs) => {
             // For 3 and 5 of the string map the Rust answers with an empty map.

@@ -155,8 +155,15 @@ fn instructions(rng: &mut Rng) -> Vec<u8> {
     out
 }
 
+/// A code item with these instructions, at the file's end.
+fn code_item(file: &mut Vec<u8>, array: &[u8], rng: &mut Rng) {
+    file.extend(rng.bytes(12, &[0, 1]));
+    file.extend((array.len() as u32 / 2).to_le_bytes());
+    file.extend(array);
+}
+
 /// A small dex file: tables, string data in any order, code items, some with one code for several methods, class data one after another,
-/// a map with or without an entry for them.
+/// a map with or without an entry for them; and now and then a code item after all of it, with which the file may end.
 pub fn made_up(rng: &mut Rng) -> Dex {
     let counts = [rng.below(9), rng.below(6), 0, 0, rng.below(9), rng.below(4)];
     let sizes = [4, 4, 12, 8, 8, 32];
@@ -189,12 +196,12 @@ pub fn made_up(rng: &mut Rng) -> Dex {
         }
         codes.push(file.len() as u32);
         let array = instructions(rng);
-        file.extend(rng.bytes(12, &[0, 1]));
-        file.extend((array.len() as u32 / 2).to_le_bytes());
-        file.extend(array);
+        code_item(&mut file, &array, rng);
     }
 
-    // Class data.
+    // Class data. The code offsets of the last item are written once it is known where that is, in three bytes each.
+    let with_last = rng.one_in(4);
+    let mut of_last = Vec::new();
     let first = file.len() as u32;
     for c in 0..nc {
         let at = file.len() as u32;
@@ -220,6 +227,11 @@ pub fn made_up(rng: &mut Rng) -> Dex {
                 some_leb(&mut file, diff as u64, rng);
                 let flags = rng.of(&[0u64, 1, 9, 0x80, 0x1_0000]);
                 some_leb(&mut file, flags, rng);
+                if with_last && rng.one_in(3) {
+                    of_last.push(file.len());
+                    file.extend([0x80, 0x80, 0]);
+                    continue;
+                }
                 let code = match rng.below(20) {
                     0..=2 => 0,
                     3 if rng.one_in(3) => rng.below(file.len() + 20) as u32,
@@ -270,8 +282,17 @@ pub fn made_up(rng: &mut Rng) -> Dex {
             file.extend(first.to_le_bytes());
         }
     }
+    if with_last {
+        file.resize(file.len().div_ceil(4) * 4, 0);
+        let at = file.len();
+        for place in of_last {
+            file[place..place + 3].copy_from_slice(&[at as u8 | 0x80, (at >> 7) as u8 | 0x80, (at >> 14) as u8]);
+        }
+        let array = instructions(rng);
+        code_item(&mut file, &array, rng);
+    }
     // Room up to the end of the last block, but for some.
-    if !rng.one_in(3) {
+    if !rng.one_in(if with_last { 2 } else { 3 }) {
         file.resize(file.len().div_ceil(16) * 16, 0);
     }
     // The header's own words for strings, which the name filter reads.

@@ -8,4 +8,5 @@ pub mod OneItem
 pub mod Entry
 pub mod Items
 pub mod Found
+pub mod Reasons
 pub mod Gives

@@ -2,3 +2,4 @@ pub mod Sets
 pub mod Listed
 pub mod Starts
 pub mod Whole
+pub mod Inside

@@ -30,7 +30,8 @@ use Rattle.code_table.specs.Steps.{noCode, mostBuckets, Triples, room, S
 use Rattle.code_table.specs.declared.Tabled.{Tabled}
 use Rattle.code_table.specs.declared.Tabled.the-variants.{Filled, Short}
 use Rattle.code_table.specs.declared.Built.the-variants.{Done, Refused}
-use Rattle.code_table.proofs.Slots.{base-least, top-greatest, table-length}
+use Rattle.code_table.proofs.Buckets.{base-least, top-greatest}
+use Rattle.code_table.proofs.Slots.{table-length}
 
 -- ---- buckets
 top-bound : (B : ℕ) (cs : List Code) → ((i : ℕ) → i < length cs → lastBucket (getD cs i noCode) < B) → topOf cs ≤ B

@@ -1,4 +1,6 @@
+pub mod Buckets
 pub mod RegionEnd
 pub mod Slots
 pub mod Build
 pub mod Walked
+pub mod Inside

@@ -1,7 +1,6 @@
 -- Laws of the slot table. The table of the codes so far grows by one code at a time: slots are only overwritten and shares only appended,
 -- so the lent words that hold it hold the next one after one stretch is filled and one share put after the others.
 --     first-word, last-word, method-word    the three words of code i
---     base-least, top-greatest              every code lies between the least bucket and the greatest
 --     lowest-step, top-step                 one code more
 --     held-free, held-share, held-over      a code placed in lent words
 --     upTo, table-all, table-length, table-over   the first i codes placed
@@ -25,6 +24,7 @@ use Rattle.code_table.specs.Slots.{lowest, baseOf, topOf, shared, joined
 use Rattle.code_table.specs.Steps.{noCode, Triples, room, Triple, threeWords, Words, SlotWords, slotWords, Holds, After, Placeable, PlacedIn}
 use Rattle.code_table.specs.declared.Placed.{Placed}
 use Rattle.code_table.specs.declared.Placed.the-variants.{Done, Full}
+use Rattle.code_table.proofs.Buckets.{base-least, top-greatest}
 
 -- ---- the three words of a code
 three-more : (k r : ℕ) → 3 * suc k + r ≡ suc (suc (suc (3 * k + r)))
@@ -60,25 +60,6 @@ module _ {ts : List ℕ} {n : ℕ} {cs : List Code} (T : Triples ts n cs) (i : �
   method-word = at-word 2 (omega arith)
 
 -- ---- the least bucket, and one more than the greatest
-lowest-seed : (b : ℕ) (cs : List Code) → lowest b cs ≤ b
-lowest-seed b [] = omega arith
-lowest-seed b (c ∷ cs) = omega (arith, lowest-seed (min b (firstBucket c)) cs)
-
-lowest-below : (b : ℕ) (cs : List Code) (i : ℕ) → i < length cs → lowest b cs ≤ firstBucket (getD cs i noCode)
-lowest-below b [] i h = absurd (omega arith)
-lowest-below b (c ∷ cs) zero h = omega (arith, lowest-seed (min b (firstBucket c)) cs)
-lowest-below b (c ∷ cs) (suc i) h = lowest-below (min b (firstBucket c)) cs i (omega arith)
-
-pub base-least : (cs : List Code) (i : ℕ) → i < length cs → baseOf cs ≤ firstBucket (getD cs i noCode)
-base-least [] i h = absurd (omega arith)
-base-least (c ∷ cs) zero h = lowest-seed (firstBucket c) cs
-base-least (c ∷ cs) (suc i) h = lowest-below (firstBucket c) cs i (omega arith)
-
-pub top-greatest : (cs : List Code) (i : ℕ) → i < length cs → lastBucket (getD cs i noCode) < topOf cs
-top-greatest [] i h = absurd (omega arith)
-top-greatest (c ∷ cs) zero h = omega arith
-top-greatest (c ∷ cs) (suc i) h = omega (arith, top-greatest cs i (omega arith))
-
 pub lowest-step : (r : ℕ) (cs : List Code) (i : ℕ) → i < length cs
     → lowest (min r (firstBucket (getD cs i noCode))) (drop (i + 1) cs) ≡ lowest r (drop i cs)
 lowest-step r cs i h = rw (add-one, drop-cons cs i noCode h)

@@ -6,9 +6,9 @@ ghost use lib.ListN.{length};
 ghost use lib.Seq.{sets};
 ghost use Rattle.dalvik.specs.CodeItem.{Code};
 ghost use Rattle.code_table.specs.Slots.{baseOf, topOf, joined};
-ghost use Rattle.code_table.specs.RegionEnd.{regionEnd};
+ghost use Rattle.code_table.specs.RegionEnd.{regionEnd, RegionInside};
 ghost use Rattle.code_table.specs.Build.{buildOut};
-ghost use Rattle.code_table.specs.Answer.{tableWords, roomOf, GivesBuild};
+ghost use Rattle.code_table.specs.Answer.{builtRegion, tableWords, roomOf, GivesBuild};
 ghost use Rattle.code_table.specs.Steps.{mostBuckets, Triples, Coded, room, threeWords, slotWords, Placeable, PlacedIn};
 ghost use Rattle.code_table.specs.Steps.{Cleared, Spanned, AllPlaced, TabledAs, Finished};
 use refusal::Answer;
@@ -18,7 +18,7 @@ use tinydex::DexHeader;
 // A slot word of a share is this much above the share's number (`shared` of specs/Slots.antt); below it is a method's, plus one.
 pub const SHARED: u32 = 2147483648;
 
-// The bytes that hold code: from the first byte of the least bucket up to the end of the greatest.
+// The bytes that hold code: from the first byte of the least bucket up to the end of the greatest, or of the file if that comes first.
 pub struct Region {
     pub start: u32,
     pub end: u32,
@@ -197,12 +197,17 @@ fn slot_table(triples: &[u32], n: usize, slots: &mut [u32], shares: &mut [u32]) 
     }
 }
 
-// Where the code region of a file of len bytes ends, by one more than the greatest last bucket.
+// Where the code region of a file of len bytes ends, by one more than the greatest last bucket: with that bucket, or with the file where the
+// bucket sticks out.
 fn region_end(top: u32, len: usize) -> u32
     requires { ⌜ top ≤ mostBuckets ⌝ }
     ensures { λ r. ⌜ ((cs : List Code) → top ≡ topOf cs → r ≡ regionEnd len cs) ⌝ }
 {
-    top * 16
+    let end = top * 16;
+    if len < end as usize {
+        return len as u32;
+    }
+    end
 }
 
 // The answer for n codes found in a file of len bytes, whose triples and start words stand in the lent slices.
@@ -253,6 +258,7 @@ pub fn parse(
         let before = tableWords (now (starts .entry)) (now (triples .entry)) (now (slots .entry)) (now (shares .entry)) in
         let after = tableWords (now (starts .exit)) (now (triples .exit)) (now (slots .exit)) (now (shares .exit)) in
         ⌜ GivesBuild (buildOut (now (file .entry)) header (roomOf before)) r before after ⌝ }
+    ensures region_inside { λ r. ⌜ RegionInside (length (now (file .entry))) (builtRegion r .start) (builtRegion r .end) ⌝ }
 {
     words::clear(slots);
     words::clear(shares);

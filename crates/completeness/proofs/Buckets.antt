@@ -1,14 +1,13 @@
 -- The buckets of an array are the blocks that hold a byte of it. Those of different code items are disjoint, since 16 header bytes stand
--- between two arrays; and all lie in the region, which runs from the least to the greatest.
+-- between two arrays.
 -- Assumes nothing.
-use Prim.Native.Nat.{ℕ, _+_, _*_, _≤_, _<_, min}
+use Prim.Native.Nat.{ℕ, _*_, _≤_, _<_}
 use native.Mathlib.Omega.{arith}
 use mathlib.Core.Path.{_≡_, refl}
 use mathlib.Core.Logic.{_⊎_, inl, inr, ⊎-elim}
 use mathlib.Core.List.{List, [], _∷_, List·Memᴰ, List·Memᴰ·head, List·Memᴰ·tail, List·Memᴰ·not-nil, List·Memᴰ·cases-cons}
 use Rattle.dalvik.specs.CodeItem.{Code, start, stop}
 use Rattle.class_data.specs.Stored.{firstBucket, lastBucket}
-use Rattle.code_table.specs.Slots.{lowest, baseOf, topOf}
 use Rattle.completeness.specs.Completeness.{CoincideOrApart, BlockOf}
 use Rattle.completeness.specs.Completeness.CoincideOrApart.{coincide, ends-before, begins-after}
 use Rattle.completeness.proofs.Tests.{lt-or-le}
@@ -40,27 +39,6 @@ pub one-offset : (c d : Code) → CoincideOrApart c d → c .off ≡ d .off → 
 one-offset c d (coincide e u) o = u
 one-offset c d (ends-before h) o = absurd (omega arith)
 one-offset c d (begins-after h) o = absurd (omega arith)
-
--- ---- the region
-lowest-le : (b : ℕ) (cs : List Code) → lowest b cs ≤ b
-lowest-le b [] = omega arith
-lowest-le b (c ∷ cs) = omega (arith, lowest-le (min b (firstBucket c)) cs)
-
-lowest-mem : {c : Code} {cs : List Code} → List·Memᴰ c cs → (b : ℕ) → lowest b cs ≤ firstBucket c
-lowest-mem {c} (List·Memᴰ·head {x = d} {xs = cs} e) b = rw e (omega (arith, lowest-le (min b (firstBucket d)) cs))
-lowest-mem {c} (List·Memᴰ·tail {x = d} m) b = lowest-mem m (min b (firstBucket d))
-
-pub base-le : {c : Code} {cs : List Code} → List·Memᴰ c cs → baseOf cs ≤ firstBucket c
-base-le {c} (List·Memᴰ·head {x = d} {xs = cs} e) = rw e (lowest-le (firstBucket d) cs)
-base-le {c} (List·Memᴰ·tail {x = d} m) = lowest-mem m (firstBucket d)
-
-pub top-lt : {c : Code} {cs : List Code} → List·Memᴰ c cs → lastBucket c < topOf cs
-top-lt {c} (List·Memᴰ·head {x = d} {xs = cs} e) = rw e (omega arith)
-top-lt {c} (List·Memᴰ·tail {x = d} m) = omega (arith, top-lt m)
-
-pub top-least : (cs : List Code) (e : ℕ) → ((c : Code) → List·Memᴰ c cs → (lastBucket c + 1) * 16 ≤ e) → topOf cs * 16 ≤ e
-top-least [] e f = omega arith
-top-least (c ∷ cs) e f = omega (arith, f c (List·Memᴰ·head refl), top-least cs e (λ d m. f d (List·Memᴰ·tail m)))
 
 -- whose bucket it is
 pub owner-of : (cs : List Code) (b : ℕ) → ((d : Code) × List·Memᴰ d cs × InBuckets d b) ⊎ ((d : Code) → List·Memᴰ d cs → InBuckets d b → ⊥)

@@ -20,7 +20,7 @@ use Rattle.code_table.specs.RegionEnd.{regionEnd}
 use Rattle.code_table.specs.Build.{Room, buildOut}
 use Rattle.kinds.specs.Width.{widthOf}
 use Rattle.kinds.specs.Kinds.{kindOf}
-use Rattle.code_item_scan.specs.Scan.{asked, hitRoom, indexAt, isTried, hitsIn, hitsBy, scanOut}
+use Rattle.code_item_scan.specs.Scan.{Hit, asked, hitRoom, indexAt, isTried, hitsIn, hitsBy, scanOut}
 use Rattle.insn_locator.specs.Walk.{step, walkIn, walk}
 use Rattle.insn_locator.specs.Locate.{slotAt, firstOf, locateFrom, locateAll, locateOut}
 use Rattle.slot_listing.specs.Listing.{chain, listed, listOut}
@@ -28,6 +28,7 @@ use Rattle.completeness.proofs.Owners.{tablesFor}
 use Rattle.completeness.proofs.WorkedFile.{Computed}
 use Rattle.completeness.proofs.Case as whole
 use Rattle.completeness.proofs.SharedCase as shared
+use Rattle.completeness.proofs.EndCase as end
 
 room : Room
 room = record { starts = 4; triples = 4; slots = 4; shares = 4 }
@@ -35,6 +36,9 @@ room = record { starts = 4; triples = 4; slots = 4; shares = 4 }
 -- the whole case, with a string reference written after the array's end, at 72, in the array's only block
 file : List ℕ
 file = take 72 whole.file ++ (0x1a ∷ 0 ∷ 0x05 ∷ 0 ∷ replicate 4 0)
+
+hit : ℕ → Hit
+hit off = record { off = off; mark = 5 }
 
 codes : List Code
 codes = record { method = 0; off = 48; units = 4 } ∷ []
@@ -48,27 +52,34 @@ close = record { method = 4; off = 48; units = 2 } ∷ record { method = 7; off 
 record Answers : Type 0 where
   pub whole-case : Computed whole.worked
   pub shared-case : Computed shared.worked
+  pub end-case : Computed end.worked
+  pub jumbo-at-end : Computed end.jumbo-worked
   -- another confirmed entry, after the last instruction: the walk goes on past the array's end
   pub beyond : locateAll file (tablesFor 1 codes 0 0 0) (64 ∷ 72 ∷ []) ≡ some (1 ∷ 1 ∷ [])
-  -- the last block not inside: cut after the array, the build succeeds and the scan refuses with 12
-  pub cut-build : buildOut (take 76 file) whole.header room .number ≡ 0
-  pub cut-scan : scanOut (take 76 file) (asked 1 (5 ∷ []) 64 80) (hitRoom 9 9) .number ≡ 12
+  -- the last block not inside: the region ends with the file, and a longer one, made up, is refused 12
+  pub cut-build : buildOut (take 76 file) whole.header room .to ≡ 76
+  pub cut-scan : scanOut (take 76 file) (asked 1 (5 ∷ []) 64 76) (hitRoom 9 9) ≡ record { number = 0; hits = hit 64 ∷ hit 72 ∷ [] }
+  pub made-up : scanOut (take 76 file) (asked 1 (5 ∷ []) 64 77) (hitRoom 9 9) .number ≡ 12
   -- a method with code twice: its start word is that of the code found last, and the reference in the first is not confirmed
   pub lost : locateAll (file ++ replicate 32 0) (tablesFor 1 twice 0 0 0) (64 ∷ []) ≡ some (0 ∷ [])
   -- two arrays in one block, since their items share bytes: the second code is joined to the first, and either lists both methods
   pub mixed : listed (tableOf close .shares) (getD (tableOf close .slots) 0 0) ≡ some (7 ∷ 4 ∷ [])
 
 answers : Answers
-unfolding whole.file whole.header whole.worked shared.file shared.header shared.worked room file codes twice close
+unfolding whole.file whole.header whole.worked shared.file shared.header shared.worked
+    end.file end.jumbo-file end.header end.worked end.jumbo-worked hit room file codes twice close
     buildOut codesOf mapEntry entryFrom defined successive classDataAt methodsAt sizesAt twoAt methodsFrom skipped ulebFast uleb ulebLen
     le16 le32 triplesOf startsOf withStart noStarts startOf hasStart tableOf regionEnd place joined joinedSlot stretch padded
     scanOut kindOf hitsBy hitsIn isTried widthOf indexAt locateOut locateAll locateFrom slotAt firstOf walk walkIn step unitsOf listOut listed chain
 answers = record {
   whole-case = record { build = refl; scan = refl; located = refl; listed = refl };
   shared-case = record { build = refl; scan = refl; located = refl; listed = refl };
+  end-case = record { build = refl; scan = refl; located = refl; listed = refl };
+  jumbo-at-end = record { build = refl; scan = refl; located = refl; listed = refl };
   beyond = refl;
   cut-build = refl;
   cut-scan = refl;
+  made-up = refl;
   lost = refl;
   mixed = refl;
 }

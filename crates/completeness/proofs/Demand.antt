@@ -18,6 +18,7 @@ use Rattle.dalvik.specs.Instructions.Kind.{strings, types, fields, methods}
 use Rattle.class_data.specs.Stored.{startsOf}
 use Rattle.code_table.specs.Slots.{baseOf, topOf, tableOf}
 use Rattle.code_table.specs.RegionEnd.{regionEnd}
+use Rattle.code_table.proofs.RegionEnd.{base-end, end-inside}
 use Rattle.code_table.specs.Build.{Build, mostShares, wholeBuild, buildOut}
 use Rattle.kinds.specs.Kinds.{kindNumber, kindOf}
 use Rattle.code_item_scan.specs.Scan.{Hit, offs, Scan, scanOut}
@@ -31,7 +32,7 @@ use Rattle.completeness.proofs.Starts.{startsOf-length}
 use Rattle.completeness.proofs.Rises.{rising-once}
 use Rattle.completeness.proofs.Found.{codes-found}
 use Rattle.completeness.proofs.Few.{codes-few, shares-few}
-use Rattle.completeness.proofs.Walks.{tested, end-inside, base-end, in-buckets}
+use Rattle.completeness.proofs.Walks.{tested, all-inside, in-buckets}
 use Rattle.completeness.proofs.Owners.{tablesFor, slotOf, Owner, owner}
 use Rattle.completeness.proofs.Entries.{entries-rise, answers}
 use Rattle.completeness.proofs.Confirmed.{lists-methods, Entered, entered, Landed, landed, which}
@@ -93,8 +94,8 @@ module _ (s : List ℕ) (h : DexHeader) (codes : List Code) (P : Supposed s (h .
       rw (
         le-ltb largestFile (length s) (P .small),
         kind-read kind,
-        le-leb (baseOf codes * 16) (regionEnd (length s) codes) (base-end P),
-        le-leb (regionEnd (length s) codes) (length s) (end-inside P),
+        le-leb (baseOf codes * 16) (regionEnd (length s) codes) (base-end (length s) codes (all-inside P)),
+        le-leb (regionEnd (length s) codes) (length s) (end-inside (length s) codes),
         le-leb (length hits) (L .hits .offs) o,
         le-leb (length hits) (L .hits .marks) m,
       )

@@ -10,13 +10,14 @@ use Rattle.dalvik.specs.Instructions.{Kind}
 use Rattle.kinds.specs.Kinds.{kindNumber}
 use Rattle.code_table.specs.Slots.{baseOf}
 use Rattle.code_table.specs.RegionEnd.{regionEnd}
+use Rattle.code_table.proofs.RegionEnd.{end-inside, slots-few}
 use Rattle.code_table.specs.Build.{Room}
 use Rattle.code_table.specs.Answer.{roomOf}
 use Rattle.code_item_scan.specs.Answers.{hitRoomOf}
 use Rattle.completeness.specs.Completeness.{Supposed, FindWords, mostEntries, Enough}
 use Rattle.completeness.proofs.Outcomes.{Lent, entriesOf, HoldsTable, Suffices}
 use Rattle.completeness.proofs.Few.{codes-few, shares-few}
-use Rattle.completeness.proofs.Walks.{region-inside, end-inside}
+use Rattle.completeness.proofs.Walks.{all-inside}
 use Rattle.completeness.proofs.Tried.{words-more, few-hits}
 use Rattle.completeness.proofs.Demand.{kind-read}
 
@@ -41,7 +42,7 @@ module _ {s : List ℕ} {mapoff classesOff classes methods : ℕ} {codes : List 
       omega (
         arith,
         few-hits s wanted (baseOf codes * 16) (regionEnd (length s) codes) (kindNumber kind) kind (kind-read kind),
-        words-more (kindNumber kind) (regionEnd (length s) codes - baseOf codes * 16) (length s) (omega (arith, end-inside P)),
+        words-more (kindNumber kind) (regionEnd (length s) codes - baseOf codes * 16) (length s) (omega (arith, end-inside (length s) codes)),
       )
 
   pub table-enough : (room : Room) → methods ≤ room .starts → 3 * methods ≤ room .triples → length s / 16 ≤ room .slots → 3 * methods ≤ room .shares
@@ -51,7 +52,7 @@ module _ {s : List ℕ} {mapoff classesOff classes methods : ℕ} {codes : List 
       record {
         starts = a;
         triples = omega arith;
-        slots = omega (arith, region-inside P);
+        slots = omega (arith, slots-few (length s) codes (all-inside P));
         shares = omega (arith, shares-few codes);
       }
 

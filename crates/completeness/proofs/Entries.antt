@@ -13,6 +13,7 @@ use Rattle.dalvik.specs.CodeItem.{Code, start}
 use Rattle.dalvik.specs.Instructions.{Kind, Names}
 use Rattle.code_table.specs.Slots.{baseOf}
 use Rattle.code_table.specs.RegionEnd.{regionEnd}
+use Rattle.code_table.proofs.Buckets.{base-le}
 use Rattle.kinds.specs.Width.{widthOf}
 use Rattle.code_item_scan.specs.Scan.{Hit, isIn, Sought, sought, indexBy, offs}
 use Rattle.code_item_scan.proofs.Listed.{even-tried, Tested, hits-above, hits-complete, hits-sound}
@@ -23,7 +24,7 @@ use Rattle.completeness.proofs.Outcomes.{entriesOf, Rising}
 use Rattle.completeness.proofs.Tests.{isIn-mem, mem-isIn}
 use Rattle.completeness.proofs.Members.{at-place}
 use Rattle.insn_locator.proofs.Walks.{steps-le}
-use Rattle.completeness.proofs.Buckets.{InBuckets, base-le}
+use Rattle.completeness.proofs.Buckets.{InBuckets}
 use Rattle.completeness.proofs.Widths.{index-fits, Seen, named-width, width-names}
 use Rattle.completeness.proofs.Locates.{Located, located, none-yet}
 use Rattle.completeness.proofs.Rises.{above-rising}

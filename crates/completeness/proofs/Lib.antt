@@ -25,4 +25,5 @@ pub mod Promise
 pub mod WorkedFile
 pub mod Case
 pub mod SharedCase
+pub mod EndCase
 pub mod Computed

@@ -18,13 +18,14 @@ use Rattle.start_words.specs.Starts.{startOf}
 use Rattle.start_words.proofs.Starts.{start-padded}
 use Rattle.class_data.specs.Stored.{startsOf}
 use Rattle.code_table.specs.Slots.{baseOf, tableOf}
+use Rattle.code_table.proofs.Buckets.{base-le}
 use Rattle.insn_locator.specs.Walk.{lands}
 use Rattle.insn_locator.specs.Locate.{Tables, slotAt, firstOf}
 use Rattle.slot_listing.specs.Listing.{listed}
 use Rattle.completeness.specs.Completeness.{Supposed, sharing, arranged}
 use Rattle.completeness.proofs.Tests.{some-inj, lt-or-le}
 use Rattle.completeness.proofs.Members.{head-of, mem-sharing, Sharer, sharer, mem-arranged, arranged-mem}
-use Rattle.completeness.proofs.Buckets.{InBuckets, base-le, owner-of}
+use Rattle.completeness.proofs.Buckets.{InBuckets, owner-of}
 use Rattle.completeness.proofs.Shares.{Stands, stands-padded, stands-lists, stands-first, stands-some}
 use Rattle.completeness.proofs.Slots.{slot-held, slot-vacant}
 use Rattle.completeness.proofs.Starts.{startsOf-length, startsOf-mem}

@@ -19,13 +19,14 @@ use Rattle.dalvik.specs.Instructions.{Kind}
 use Rattle.class_data.specs.Codes.{codesOf}
 use Rattle.code_table.specs.Slots.{baseOf, topOf, tableOf}
 use Rattle.code_table.specs.RegionEnd.{regionEnd}
+use Rattle.code_table.proofs.RegionEnd.{base-end, end-inside}
 use Rattle.code_table.specs.Build.{Build, mostShares, noBuild, wholeBuild, builtFrom, buildOut}
 use Rattle.code_item_scan.specs.Scan.{Hit, offs, Scan, noScan, scanOut}
 use Rattle.insn_locator.specs.Locate.{locateAll, answersFrom, locateOut}
 use Rattle.completeness.specs.Completeness.{Supposed}
 use Rattle.completeness.proofs.Outcomes.{Lent, builtOf, scannedOf, locatedOf, entriesOf, HoldsTable}
 use Rattle.completeness.proofs.Found.{codes-found}
-use Rattle.completeness.proofs.Walks.{tested, end-inside, base-end}
+use Rattle.completeness.proofs.Walks.{tested, all-inside}
 use Rattle.completeness.proofs.Owners.{tablesFor}
 use Rattle.completeness.proofs.Demand.{kind-read, passed-on, starts-length}
 
@@ -80,8 +81,8 @@ module _ (s : List ℕ) (h : DexHeader) (codes : List Code) (P : Supposed s (h .
       rw (
         le-ltb largestFile (length s) (P .small),
         kind-read kind,
-        le-leb (baseOf codes * 16) (regionEnd (length s) codes) (base-end P),
-        le-leb (regionEnd (length s) codes) (length s) (end-inside P),
+        le-leb (baseOf codes * 16) (regionEnd (length s) codes) (base-end (length s) codes (all-inside P)),
+        le-leb (regionEnd (length s) codes) (length s) (end-inside (length s) codes),
       ) at n in
       let e : (p && q) ≡ true = passed (λ (S : Scan). S .number) (p && q) (record { number = 0; hits = hits }) (noScan 4) refl n₁ in
       (leb-true (length hits) (L .hits .offs) (and-left p q e), leb-true (length hits) (L .hits .marks) (and-right p q e))

@@ -14,11 +14,12 @@ use Rattle.words.proofs.Padded.{length-stretch}
 use Rattle.dalvik.specs.CodeItem.{Code}
 use Rattle.class_data.specs.Stored.{firstBucket, lastBucket}
 use Rattle.code_table.specs.Slots.{baseOf, topOf, Table, joined, joinedSlot, place, tableFrom, tableOf}
+use Rattle.code_table.proofs.Buckets.{base-le, top-lt}
 use Rattle.completeness.specs.Completeness.{ArrayOf, Supposed, sharing, arranged}
 use Rattle.completeness.proofs.Tests.{eq-or-not, lt-or-le, getD-zeros}
 use Rattle.completeness.proofs.Members.{sharing-append}
 use Rattle.completeness.proofs.Arrays.{instructions-end}
-use Rattle.completeness.proofs.Buckets.{InBuckets, one-item, one-offset, base-le, top-lt}
+use Rattle.completeness.proofs.Buckets.{InBuckets, one-item, one-offset}
 use Rattle.completeness.proofs.Shares.{Stands, free, stands-append, adds, arranged-snoc, join, joined-length}
 use Rattle.completeness.proofs.Stretches.{stretch-below, stretch-in, stretch-above}
 

@@ -133,12 +133,11 @@ module _ (s : List ℕ) where
 
     pub supposed : {mapoff classesOff classes : ℕ} (n : ℕ)
         → (allBytes s ≡ true) × (leb (length s) mostBytes ≡ true) × (leb n methodLimit ≡ true) × (off % 4 ≡ 0)
-        × (leb ((off + 31 + 2 * units) / 16 * 16) (length s) ≡ true)
+        × (leb (off + 16 + 2 * units) (length s) ≡ true)
         → CodesOf s mapoff classesOff classes (codesFrom off units n 0) → ((m : ℕ) → ArrayOf s (codeOf off units m))
         → Supposed s mapoff classesOff classes n (codesFrom off units n 0)
     supposed n t found array =
         let few : n ≤ methodLimit = leb-true n methodLimit (t .2) in
-        let fits : (off + 31 + 2 * units) / 16 * 16 ≤ length s = leb-true ((off + 31 + 2 * units) / 16 * 16) (length s) (t .4) in
         record {
           bytes = all-bytes s (t .0);
           small = leb-true (length s) mostBytes (t .1);
@@ -150,7 +149,7 @@ module _ (s : List ℕ) where
                 below = omega (arith, r .1);
                 small = omega (arith, r .1);
                 aligned = t .3;
-                blocks-inside = λ b o. omega (arith, o .before-stop, o .holds);
+                inside = leb-true (off + 16 + 2 * units) (length s) (t .4);
                 array = array (r .0);
               });
           apart = λ x y h k. let r = one-of n 0 x h in let q = one-of n 0 y k in rw (r .2, q .2) (coincide refl refl);

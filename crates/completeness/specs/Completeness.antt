@@ -59,13 +59,13 @@ pub record ArrayOf (s : List ℕ) (c : Code) : Type 0 where
   pub instructions : Instructions s (stop c) (start c) rest
   pub payloads : Payloads s (stop c) rest
 
--- a code as published: "indices with code are below methods.size and 16,777,216", "code offsets multiples of 4", "code items and their
--- 16-byte blocks lie inside". The array's blocks and what stands before them cover the item, so the blocks are enough
+-- a code as published: "indices with code are below methods.size and 16,777,216", "code offsets multiples of 4", "code items .. lie inside":
+-- an item ends with its array, and the file may end there too
 pub record PublishedCode (s : List ℕ) (methods : ℕ) (c : Code) : Type 0 where
   pub below : c .method < methods
   pub small : c .method < methodLimit
   pub aligned : c .off % 4 ≡ 0
-  pub blocks-inside : (b : ℕ) → BlockOf c b → (b + 1) * 16 ≤ length s
+  pub inside : stop c ≤ length s
   pub array : ArrayOf s c
 
 -- The numbers are the header record's: the map's offset, the class definitions' offset and count, and the count of method ids. It isn't

@@ -1,3 +1,5 @@
 pub mod Searched
 pub mod Laws
 pub mod Promised
+pub mod Region
+pub mod Clauses

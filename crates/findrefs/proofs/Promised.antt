@@ -36,7 +36,7 @@ use Rattle.findrefs.specs.Gives.{replyOf, GivesFind}
 use Rattle.findrefs.specs.declared.Found.{Found}
 
 -- ---- an outcome's number is that of the operation that refuses
-searched-number : (hits : List Hit) (A : Outcome) → searched hits A .number ≡ A .number
+pub searched-number : (hits : List Hit) (A : Outcome) → searched hits A .number ≡ A .number
 searched-number hits A =
     ⊎-elim (λ (e : eqb (A .number) 0 ≡ true). rw e (sym (eqb-true (A .number) 0 e))) (λ (e : eqb (A .number) 0 ≡ false). rw e)
     (case (eqb (A .number) 0))
@@ -158,9 +158,3 @@ unfolding Demand3
 promised s h number wanted r before after G codes P kind e =
     let H : GivesFind (findOut s h (kindNumber kind) wanted (lengthsOf before)) r before after = rw e at G in
     rw e (keeps P refl (reports s h kind wanted before codes P r after H))
-
--- what the finder gives, and what it promises
-pub both : (s : List ℕ) (h : DexHeader) (number : ℕ) (wanted : List ℕ) (r : Found) (before after : FindWords)
-    → GivesFind (findOut s h number wanted (lengthsOf before)) r before after
-    → GivesFind (findOut s h number wanted (lengthsOf before)) r before after × Demand3 (callOf s h number wanted) before (replyOf r) after
-both s h number wanted r before after G = (G, promised s h number wanted r before after G)

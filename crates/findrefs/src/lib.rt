@@ -10,6 +10,7 @@ ghost use Rattle.insn_locator.specs.Answers.{tables, locateWords};
 ghost use Rattle.completeness.specs.Completeness.{findWords, callOf, Demand3};
 ghost use Rattle.findrefs.specs.Find.{lengthsOf, searchOut, findOut};
 ghost use Rattle.findrefs.specs.Gives.{GivesFind, replyOf};
+ghost use Rattle.findrefs.specs.Region.{NeverOutside};
 ghost use Rattle.findrefs.specs.Steps.{FoundIn};
 use code_table::Built;
 use code_table::Region;
@@ -79,7 +80,8 @@ fn found_in(
 
 // Every instruction of a kind that names a wanted index. Whatever stood in the lent slices, they hold afterwards: the build's start words,
 // triples, slots and shares; the scan's offsets and the indices beside them; for each entry its slot word, or 0 where no walk confirms
-// it; and zeros in the further words, of which as many are needed as there are methods. On a refusal every lent word is zero.
+// it; and zeros in the further words, of which as many are needed as there are methods. On a refusal every lent word is zero. It never refuses
+// 12: the region that it scans lies in the file.
 pub fn find(
     file: &[u8],
     header: DexHeader,
@@ -106,6 +108,7 @@ pub fn find(
         let before = findWords lent (hitWords (now (offs .entry)) (now (marks .entry))) (locateWords (now (further .entry)) (now (answers .entry))) in
         let after = findWords left (hitWords (now (offs .exit)) (now (marks .exit))) (locateWords (now (further .exit)) (now (answers .exit))) in
         ⌜ Demand3 (callOf (now (file .entry)) header kind (now (wanted .entry))) before (replyOf r) after ⌝ }
+    ensures never_outside { λ r. ⌜ NeverOutside (now (file .entry)) r ⌝ }
 {
     match code_table::parse(file, header, starts, triples, slots, shares) {
         Built::Refused(r) => {

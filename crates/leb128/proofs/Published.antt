@@ -10,7 +10,6 @@ use borrow.Author.Tests.{lt-ltb, le-ltb, ltb-true, ltb-false}
 use Rattle.words.proofs.Shared.{cond-elim}
 use Rattle.dalvik.specs.Numbers.{byte, Bytes, Leb128, Uleb128}
 use Rattle.dalvik.specs.Numbers.Leb128.{last-byte, more-bytes}
-use Rattle.refusal.specs.Refusals.{refusalNumber}
 use Rattle.refusal.specs.declared.Refusal.{Refusal}
 use Rattle.refusal.specs.declared.Refusal.the-variants.{NumberOutside, NumberTooLong}
 use Rattle.leb128.specs.Leb.{uleb, ulebFast, carry, bytesOf, ulebLen, Published, PublishedLen}
@@ -69,11 +68,6 @@ len-published n = ap bytesOf (fast-published n)
 pub data Reason : Refusal → Type 0 where
   outside : Reason NumberOutside
   too-long : Reason NumberTooLong
-
--- it never says that a lent slice is too short
-pub reason-number : {r : Refusal} → Reason r → refusalNumber r ≡ 4 → ⊥
-reason-number outside q = omega arith
-reason-number too-long q = omega arith
 
 record Stands (k : ℕ) (s : List ℕ) (i v n : ℕ) : Type 0 where
   number : Leb128 s (suc k) i v (i + n)

@@ -23,7 +23,8 @@ ghost use Rattle.method_search.specs.Methods.{query as classAndName, searchFor,
 ghost use Rattle.name_filter.specs.Faults.{filterFault};
 ghost use Rattle.name_filter.specs.Names.{Named};
 ghost use Rattle.code_table.specs.Build.{buildOut};
-ghost use Rattle.code_table.specs.Answer.{tableWords, roomOf, GivesBuild};
+ghost use Rattle.code_table.specs.RegionEnd.{RegionInside};
+ghost use Rattle.code_table.specs.Answer.{builtRegion, tableWords, roomOf, GivesBuild};
 ghost use Rattle.code_table.specs.declared.Built.{Built as CodeTable};
 ghost use Rattle.code_item_scan.specs.Scan.{asked, scanOut};
 ghost use Rattle.code_item_scan.specs.Answers.{hitWords, hitRoomOf, Gives as GivesScan};
@@ -33,6 +34,7 @@ ghost use Rattle.slot_listing.specs.Listing.{listOut};
 ghost use Rattle.completeness.specs.Completeness.{findWords, callOf, Demand3};
 ghost use Rattle.findrefs.specs.Find.{lengthsOf, findOut};
 ghost use Rattle.findrefs.specs.Gives.{replyOf, GivesFind};
+ghost use Rattle.findrefs.specs.Region.{NeverOutside};
 ghost use Rattle.findrefs.specs.declared.Found.{Found as AFound};
 ghost use Rattle.ringlinden.specs.Header.{headerOf};
 ghost use Rattle.ringlinden.specs.Told.{Told, ofAnswer, ofMethodGroups, ofStringMap, ofStringText, ofCodeTable, ofFound};
@@ -292,6 +294,11 @@ pub extern "C" fn ringlinden_code_table(
         let region = now («region_start» .exit) ∷ now («region_end» .exit) ∷ [] in
         let counts = now (codes .exit) ∷ now («slot_count» .exit) ∷ now («share_count» .exit) ∷ [] in
         ⌜ Told ofCodeTable (λ (a : CodeTable). GivesBuild outcome a before after) (r ∷ region ++ counts) ⌝ }
+    ensures region_inside { λ r.
+        let region = now («region_start» .exit) ∷ now («region_end» .exit) ∷ [] in
+        let counts = now (codes .exit) ∷ now («slot_count» .exit) ∷ now («share_count» .exit) ∷ [] in
+        let n = length (now (file .entry)) in
+        ⌜ Told ofCodeTable (λ (a : CodeTable). RegionInside n (builtRegion a .start) (builtRegion a .end)) (r ∷ region ++ counts) ⌝ }
 {
     let answer = code_table::parse(
         file,
@@ -374,7 +381,7 @@ pub extern "C" fn ringlinden_list_slot(
     c_answers::tell(listed, count)
 }
 
-// Build, scan and locate in one, with demand 3 as `findrefs::find` has it.
+// Build, scan and locate in one, with demand 3 as `findrefs::find` has it, and never 12.
 #[no_mangle]
 pub extern "C" fn ringlinden_find(
     file: &[u8],
@@ -413,6 +420,9 @@ pub extern "C" fn ringlinden_find(
         let call = callOf (now (file .entry)) (headerOf (now (header .entry))) kind (now (wanted .entry)) in
         let told = r ∷ now («region_start» .exit) ∷ now («region_end» .exit) ∷ now (hits .exit) ∷ [] in
         ⌜ Told ofFound (λ (a : AFound). Demand3 call before (replyOf a) after) told ⌝ }
+    ensures never_outside { λ r.
+        let told = r ∷ now («region_start» .exit) ∷ now («region_end» .exit) ∷ now (hits .exit) ∷ [] in
+        ⌜ Told ofFound (λ (a : AFound). NeverOutside (now (file .entry)) a) told ⌝ }
 {
     let answer = findrefs::find(
         file,

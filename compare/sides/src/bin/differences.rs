@@ -127,12 +127,13 @@ fn main() {
         ("scan, kind 0", Answers, 2, with(SCAN, |_| {})),
         ("scan, a region backward", Panics, 12, with(SCAN, |c| c.numbers[13..].copy_from_slice(&[1, 0, 1]))),
         ("scan, a region past the end", Panics, 12, with(SCAN, |c| c.numbers[13..].copy_from_slice(&[0, 1, 1]))),
-        ("build and scan, a last block that is not inside", Panics, 12, {
+        ("code table, a last block that is not inside", Answers, 0, code(62, 1)),
+        ("build and scan, the same", Panics, 0, {
             let mut c = Case { op: FIND, lent: [9; 8], ..code(62, 1) };
             c.numbers[13] = 1;
             c
         }),
-        ("the same, inside", Same, 0, {
+        ("build and scan, a last block that is inside", Same, 0, {
             let mut c = Case { op: FIND, lent: [9; 8], ..code(64, 1) };
             c.numbers[13] = 1;
             c

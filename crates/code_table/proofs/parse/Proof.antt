@@ -11,6 +11,7 @@ use Rattle.class_data.proofs.Found.{Taken, taken, NotTaken, not-taken}
 use Rattle.code_table.specs.Answer.{TableWords, tableWords, roomOf}
 use Rattle.code_table.proofs.Build.{gives-none}
 use Rattle.code_table.proofs.Walked.{lost, filled, taken-triples, gives-gained}
+use Rattle.code_table.proofs.Inside.{both}
 use borrow.Author.Needs.{needs}
 use Rattle.code_table.proofs.parse.Statement.{statement}
 use Rattle.code_table.proofs.parse.Tie as tie
@@ -109,8 +110,9 @@ returns c =
     let at-codes = c .before .before .before .before .before .before .before in
     let r = c .before .r .given .0 .0 in
     let K = not-got at-codes r (c .before .r .given .1) in
-    gives-none _ r (lent at-codes) (left at-codes) (lost _ _ (roomOf (lent at-codes)) r (K .walk))
-    (record { starts = K .starts; triples = K .triples; slots = at-clear at-codes .clear .ensures; shares = at-clear2 at-codes .clear2 .ensures })
+    both _ _
+    (gives-none _ r (lent at-codes) (left at-codes) (lost _ _ (roomOf (lent at-codes)) r (K .walk))
+    (record { starts = K .starts; triples = K .triples; slots = at-clear at-codes .clear .ensures; shares = at-clear2 at-codes .clear2 .ensures }))
 
 same-length-5 : tie.Need-same-length-5
 same-length-5 c = search needs
@@ -130,8 +132,9 @@ returns-2 c =
     let at-found = at-finish .before .before .before .before .before in
     let at-codes = at-found .before .before .before .before .before .before .before in
     let q = at-finish .finish in
-    gives-gained (lent at-codes) (left at-codes) (got at-codes _ (at-found .before .n .given .1)) (as-long at-codes)
-    (q .result) (tableWords (q .last .1 .1 .0) (q .last .1 .1 .1 .0) (q .last .1 .1 .1 .1 .0) (q .last .1 .1 .1 .1 .1 .0)) (q .ensures)
+    both _ _
+    (gives-gained (lent at-codes) (left at-codes) (got at-codes _ (at-found .before .n .given .1)) (as-long at-codes)
+    (q .result) (tableWords (q .last .1 .1 .0) (q .last .1 .1 .1 .0) (q .last .1 .1 .1 .1 .0) (q .last .1 .1 .1 .1 .1 .0)) (q .ensures))
 
 pub parse-spec : {M : Type 1} → statement M
 parse-spec =

@@ -1,8 +1,8 @@
 -- `findrefs::find` meets its contract: where the build refuses the other slices are cleared, and else the search follows it as the outcome has it;
--- the promise follows from what is given. Assumes nothing.
+-- the other clauses follow from what is given. Assumes nothing.
 use native.Mathlib.Omega.{arith}
 use Rattle.findrefs.proofs.Laws.{find-unbuilt, find-built}
-use Rattle.findrefs.proofs.Promised.{both}
+use Rattle.findrefs.proofs.Clauses.{clauses}
 use borrow.Author.Needs.{needs}
 use Rattle.findrefs.proofs.find.Statement.{statement}
 use Rattle.findrefs.proofs.find.Tie as tie
@@ -51,7 +51,7 @@ returns c =
     let cleared = c .before .before .before .before .before .before .before .before in
     let refused = cleared .before .before .before .before .before .before in
     let built = refused .before .before .before .before .before .before .before .before .before .before in
-    both _ _ _ _ _ _ _ (find-unbuilt _ _ _ _ _ _ _ (refused .r .given .1) (built .parse .ensures) (cleared .clear-four .ensures))
+    clauses _ _ _ _ _ _ _ (find-unbuilt _ _ _ _ _ _ _ (refused .r .given .1) (built .parse .ensures .0) (cleared .clear-four .ensures))
 
 same-length-9 : tie.Need-same-length-9
 same-length-9 c =
@@ -93,8 +93,8 @@ returns-2 c =
     let kept = read .before .before .before in
     let lent = kept .before .before .before .before .before .before in
     let built = lent .before in
-    both _ _ _ _ _ _ _
-    (find-built _ _ _ _ _ _ _ _ _ _ (read .region .given .1) (built .parse .ensures) _ _
+    clauses _ _ _ _ _ _ _
+    (find-built _ _ _ _ _ _ _ _ _ _ (read .region .given .1) (built .parse .ensures .0) _ _
     (record {
       starts = omega (arith, lent .starts .given);
       triples = omega (arith, kept .before .before .before .before .triples .given);

@@ -30,7 +30,11 @@ returns c =
     let at-shares = c .before .before .before .before .before .before .before in
     let at-parse = at-shares .before .before .before .before .before .before .before in
     let at-header-of = at-parse .before .before .before .before .before in
-    record { answer = _; handed = c .tell-code-table .ensures; right = rw (at-header-of .header-of .ensures) at (at-parse .parse .ensures) }
+    let told = c .tell-code-table .ensures in
+    let q = at-parse .parse in (
+      record { answer = q .result; handed = told; right = rw (at-header-of .header-of .ensures) at (q .ensures .0) },
+      record { answer = q .result; handed = told; right = q .ensures .1 },
+    )
 
 pub ringlinden-code-table-spec : {M : Type 1} → statement M
 ringlinden-code-table-spec =

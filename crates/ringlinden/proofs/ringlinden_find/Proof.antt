@@ -43,9 +43,13 @@ returns c =
     let at-find = at-offs .before .before .before .before .before .before .before .before .before in
     let at-header-of = at-find .before .before .before .before .before .before .before .before .before in
     let same = at-header-of .header-of .ensures in
-    let told = c .tell-found .ensures in (
-      record { answer = at-find .find .result; handed = told; right = rw same at (at-find .find .ensures .0) },
-      record { answer = at-find .find .result; handed = told; right = rw same at (at-find .find .ensures .1) },
+    let told = c .tell-found .ensures in
+    let q = at-find .find in (
+      record { answer = q .result; handed = told; right = rw same at (q .ensures .0) },
+      (
+        record { answer = q .result; handed = told; right = rw same at (q .ensures .1 .0) },
+        record { answer = q .result; handed = told; right = q .ensures .1 .1 },
+      ),
     )
 
 pub ringlinden-find-spec : {M : Type 1} → statement M
