@@ -208,8 +208,8 @@ uint32_t ringlinden_scan(const uint8_t *file, size_t file_len, uint32_t start, u
                          size_t *count);
 
 /*
- * For each entry, an offset in the file, the slot word of its block where a walk of the code lands on it, else 0. base: the region's first
- * block, *region_start / 16; slots, starts and shares as ringlinden_code_table gave them; entries: ringlinden_scan's offsets.
+ * For each entry, an offset in the file, the slot word of its block where a walk over the instructions and payloads of its method's code lands
+ * on it, else 0. base: the region's first block, *region_start / 16; slots, starts and shares as ringlinden_code_table gave them; entries: ringlinden_scan's offsets.
  * further: a word for each start word, zero afterwards in every case; answers: *count words, one for each entry. Refusals: 1; 4; 15,
  * a share that is needed is outside the shares, or a first method that is needed has no start word.
  */
@@ -229,7 +229,7 @@ uint32_t ringlinden_list_slot(const uint32_t *shares, size_t shares_len, uint32_
  * Code table, scan of its region and locate in one. starts, triples, slots and shares as of ringlinden_code_table, offs and marks as of
  * ringlinden_scan, answers as of ringlinden_locate; further: a word for each method, however many start words are lent. *hits words of
  * offs, marks and answers are the result. Refusals: those of the three, in their order, but never 12. For a file as published and lent
- * outputs that suffice no instruction is missing: crates/findrefs has the statement.
+ * outputs that suffice no instruction of an array is missing, and none is made up: crates/findrefs has the statement.
  */
 uint32_t ringlinden_find(const uint8_t *file, size_t file_len, const uint32_t header[13], uint32_t kind,
                          const uint32_t *wanted, size_t wanted_len, uint32_t *starts, size_t starts_len,

@@ -439,15 +439,14 @@ impl Inputs {
             let n = rng.below(12);
             let (a, e) = (numbers[0], numbers[1].min(file.len() + 3));
             case.lists[3] = (0..n).map(|_| (a + rng.below((e + 2).saturating_sub(a).max(1))) as u32).collect();
-            // Starts of instructions: what the walks confirm.
+            // Starts of instructions and payloads: what the walks confirm.
             for &start in case.lists[1].clone().iter().filter(|&&s| s != 0) {
                 let mut pos = start as usize;
                 for _ in 0..rng.below(6) {
                     if rng.one_in(2) {
                         case.lists[3].push(pos as u32);
                     }
-                    let op = file.get(pos).copied().unwrap_or(0);
-                    pos += 2 * source::opcode_lengths::units(op).max(1) as usize;
+                    pos = document::step(&file, pos).unwrap_or(pos + 2);
                 }
             }
             if !rng.one_in(4) {
@@ -457,6 +456,11 @@ impl Inputs {
         } else {
             let n = rng.below(70);
             case.file = rng.bytes(n, &[0x00, 0x00, 0x0e, 0x12, 0x1a, 0x02, 0x1b, 0x6e, 0xfa, 0x18, 0x73, 0x01]);
+            if rng.one_in(3) {
+                let (at, payload) = (rng.below(n + 1), some_payload(rng));
+                let end = (at + payload.len()).min(n);
+                case.file.splice(at..end, payload);
+            }
             case.numbers[13] = rng.below(3) as u32;
             let (slots, starts, shares, entries) = (rng.below(6), rng.below(6), rng.below(5), rng.below(9));
             case.lists[1] = (0..starts).map(|_| if rng.one_in(5) { 0 } else { rng.below(n + 2) as u32 }).collect();
@@ -676,8 +680,8 @@ fn lend(case: &mut Case, rng: &mut Rng) {
 }
 
 /// The cases of every run, however few it makes: a file of the greatest length and one of a byte more, which every operation
-/// refuses (1); a method index at its limit, and padded numbers in each place of class data; code at a file's end; name filters around the
-/// sizes at which ours changes its tables, and above all of them.
+/// refuses (1); a method index at its limit, and padded numbers in each place of class data; code at a file's end; payloads among
+/// instructions; name filters around the sizes at which ours changes its tables, and above all of them.
 pub fn always(op: u32) -> Vec<Case> {
     let mut cases: Vec<Case> = [LARGEST, LARGEST + 1].into_iter().flat_map(|n| at_length(op, n)).collect();
     match op {
@@ -690,6 +694,11 @@ pub fn always(op: u32) -> Vec<Case> {
         FIND => {
             cases.extend(padded_numbers(op));
             cases.extend(code_at_the_end(op));
+            cases.extend(payloads(op));
+        }
+        LOCATE => {
+            cases.extend(payloads(op));
+            cases.extend(greatest_payload());
         }
         SCAN => {
             cases.push(great_indices());
@@ -840,19 +849,21 @@ fn padded_numbers(op: u32) -> Vec<Case> {
     cases
 }
 
+/// A use of index 5, and its kind.
+const USES: [(&[u8], u32); 5] = [
+    (&[0x1a, 0, 5, 0], 1),
+    (&[0x1b, 0, 5, 0, 0, 0], 1),
+    (&[0x22, 0, 5, 0], 2),
+    (&[0x52, 0, 5, 0], 3),
+    (&[0x6e, 0x10, 5, 0, 0, 0], 4),
+];
+
 /// One method, whose array ends with a use of index 5, and a file that is cut a byte before the array's end, ends with it, or goes on for up to
 /// 17 bytes: so the array's last block is whole, sticks out by any number of bytes, or stands before others. Code offsets are any, though a
 /// published one is a multiple of 4. A scan is over the region as SPEC has it, and over one that is a byte longer than the file.
 fn code_at_the_end(op: u32) -> Vec<Case> {
-    let uses: [&[u8]; 5] = [
-        &[0x1a, 0, 5, 0],
-        &[0x1b, 0, 5, 0, 0, 0],
-        &[0x22, 0, 5, 0],
-        &[0x52, 0, 5, 0],
-        &[0x6e, 0x10, 5, 0, 0, 0],
-    ];
     let mut cases = Vec::new();
-    for (code, (last, kind)) in (48..64).flat_map(|code| uses.iter().zip([1, 1, 2, 3, 4]).map(move |u| (code, u))) {
+    for (code, (last, kind)) in (48..64).flat_map(|code| USES.map(|u| (code, u))) {
         let start = code + 16;
         let stop = start + 2 + last.len();
         for len in stop - 1..=stop + 17 {
@@ -862,7 +873,7 @@ fn code_at_the_end(op: u32) -> Vec<Case> {
             case.file[32..39].copy_from_slice(&[0, 0, 1, 0, 0, 0, code as u8]);
             case.file[code + 12] = ((stop - start) / 2) as u8;
             case.file.extend([0x0e, 0]);
-            case.file.extend(*last);
+            case.file.extend(last);
             case.file.resize(len, 0);
             case.lent = [16; 8];
             case.lists[0] = vec![5];
@@ -882,6 +893,130 @@ fn code_at_the_end(op: u32) -> Vec<Case> {
         }
     }
     cases
+}
+
+/// Small payloads between two uses, of each kind, size and width; their data are zeros, the use again and again, bytes that are no opcode, or
+/// what looks like payloads. Likewise payloads before a use alone, and two of them between two.
+fn between_uses(used: &[u8]) -> Vec<Vec<u8>> {
+    let small = [1, 2].iter().flat_map(|&high| (0..4).map(move |size| (high, 0, size)));
+    let small = small.chain([0, 1, 2, 4, 8].iter().flat_map(|&width| [0, 1, 2, 3, 5].map(|size| (3, width, size))));
+    let mut arrays = Vec::new();
+    for (high, width, size) in small {
+        for data in [&[0], used, &[0x73], &[0, 3, 1, 0]] {
+            arrays.push([used, &payload(high, width, size, data), used].concat());
+        }
+    }
+    for first in 1..=3 {
+        let first = payload(first, 2, 1, used);
+        arrays.push([&first, used].concat());
+        for second in 1..=3 {
+            arrays.push([used, &first, &payload(second, 1, 3, used), used].concat());
+        }
+    }
+    arrays
+}
+
+/// Payloads at the end of a file and past it, and units that are none. All begin with const-string of index 5.
+fn other_payloads() -> Vec<Vec<u8>> {
+    let used: &[u8] = &[0x1a, 0, 5, 0];
+    let mut arrays = Vec::new();
+    // Cut off after each byte.
+    for (high, width, size) in [(1, 0, 0), (1, 0, 1), (2, 0, 0), (2, 0, 1), (3, 0, 0), (3, 1, 3), (3, 2, 2), (3, 8, 1)] {
+        for data in [&[0], used] {
+            let array = [used, &payload(high, width, size, data), used].concat();
+            arrays.extend((used.len()..array.len()).map(|n| array[..n].to_vec()));
+        }
+    }
+    // A header that looks like a use, cut off in the same way, and whole.
+    for (high, width, size) in [(1, 0, 0x1a), (2, 0, 0x1a), (3, 0x1a, 5)] {
+        let array = [used, &payload(high, width, size, &[5, 0]), used].concat();
+        arrays.extend((10..=14).map(|n| array[..n].to_vec()));
+        arrays.push(array);
+    }
+    // The header says more than the file holds, or says 0; the greatest lengths would be a few units if they wrapped.
+    let sizes = [0, 1, 0x100, 0x2_0000, 0x4000_0000, 0x7fff_ffff, 0x8000_0000, 0x8000_0001, 0xfffb_fffc, 0xfffe_ffff, 0xffff_fffe, 0xffff_ffff];
+    let array_data = [0, 1, 2, 4, 8, 0x100, 0x8000, 65_535].iter().flat_map(|&width| sizes.map(|size| (3, width, size)));
+    let switches = [1, 2].iter().flat_map(|&high| [0x3fff, 0x4000, 0x7fff, 0x8000, 65_535].map(|size| (high, 0, size)));
+    for (high, width, size) in array_data.chain(switches.clone()) {
+        arrays.push([used, &payload_header(high, width, size), &used.repeat(6)].concat());
+    }
+    // Long ones: a byte short, up to the file's end, and before a use.
+    let array_data = [(1, 65_535), (255, 257), (256, 256), (65_535, 1), (65_535, 2), (65_535, 3)].map(|(width, size)| (3, width, size));
+    for (high, width, size) in switches.chain(array_data) {
+        let mut array = [used, &payload(high, width, size, &[0])].concat();
+        array[12..16].copy_from_slice(used);
+        arrays.push(array[..array.len() - 1].to_vec());
+        arrays.push(array.clone());
+        arrays.push([&array, used].concat());
+    }
+    // No payloads: another high byte, another low byte, and operands that look like a payload's first unit.
+    let units = [0, 4, 0xff].map(|high| [0, high]);
+    let units = units.into_iter().chain([0x01, 0x02, 0x0e, 0x12, 0x73, 0xff].iter().flat_map(|&low| [1, 2, 3].map(|high| [low, high])));
+    for unit in units {
+        for high in 1..=3 {
+            let mut array = [used, &payload(high, 1, 2, &[0]), used].concat();
+            array[4..6].copy_from_slice(&unit);
+            arrays.push(array);
+        }
+    }
+    for high in 1..=3 {
+        arrays.push([&[0x1a, 0, 0, high, 0x1b, 0, 0, high, 0, high], used].concat());
+    }
+    arrays
+}
+
+/// One method, whose array has payloads, or units that look like one, among uses of index 5, and begins at any remainder by 4. The file ends
+/// with the array; for the finder also with the array's last block. To locate are all offsets of a short array and some past its end, of a long
+/// one those near both ends: rising, so that the walks are short, and falling, so that one goes over all.
+pub fn payloads(op: u32) -> Vec<Case> {
+    let kinds = if op == FIND { &USES[..] } else { &USES[..1] };
+    let between = kinds.iter().flat_map(|&(used, kind)| between_uses(used).into_iter().map(move |array| (array, kind)));
+    let mut cases = Vec::new();
+    for (array, kind) in between.chain(other_payloads().into_iter().map(|array| (array, 1))) {
+        let long = array.len() > 1000;
+        for start in 64..if long { 65 } else { 68 } {
+            let mut case = Case::new(op);
+            case.file = vec![0; start];
+            case.file.extend(&array);
+            let (end, blocks) = (case.file.len() as u32, (case.file.len() / 16) as u32);
+            if op == LOCATE {
+                let mut entries: Vec<u32> = (63..end + 20).filter(|&at| at < 120 || at + 60 > end).collect();
+                case.numbers[13] = 3;
+                lent(&mut case, &[1, entries.len() as u32]);
+                case.lists = [vec![1; blocks as usize], vec![start as u32], vec![], entries.clone()];
+                cases.push(case.clone());
+                entries.reverse();
+                case.lists[3] = entries;
+                cases.push(case);
+                continue;
+            }
+            case.file[24] = 32;
+            case.file[32..39].copy_from_slice(&[0, 0, 1, 0, 0, 0, start as u8 - 16]);
+            put(&mut case.file, start - 4, array.len() as u32 / 2);
+            (case.numbers[9], case.numbers[11], case.numbers[13]) = (1, 1, kind);
+            case.lists[0] = vec![5];
+            case.lent = [1, 3, blocks, 0, 64, 64, 1, 64];
+            cases.push(case.clone());
+            case.file.resize(case.file.len().next_multiple_of(16), 0);
+            cases.push(case);
+        }
+    }
+    cases
+}
+
+/// Array data up to the end of a file of the greatest length, and an element more.
+fn greatest_payload() -> [Case; 2] {
+    let end = LARGEST as u32;
+    [end - 24, end - 23].map(|size| {
+        let mut case = Case::new(LOCATE);
+        case.file = payload_header(3, 1, size);
+        case.file.splice(..0, [0; 16]);
+        case.file.resize(LARGEST, 0);
+        case.numbers[13] = end / 16;
+        case.lists = [vec![1], vec![16], vec![], vec![end + 2, end, end + 2]];
+        lent(&mut case, &[1, 3]);
+        case
+    })
 }
 
 /// const-string/jumbo with indices around powers of two, all of them wanted among many others, in falling order.

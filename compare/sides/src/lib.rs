@@ -56,6 +56,10 @@ pub fn expected(case: &Case) -> Expected {
     if matches!(case.op, case::CODE_TABLE | case::FIND) && document.numbers[1] % 16 != 0 {
         return Expected::Off(document);
     }
+    // The Rust knows no payloads: it walks over their bytes as over instructions.
+    if document::meets_payload(case) {
+        return Expected::Off(document);
+    }
     match theirs::answer(case) {
         Some(theirs) => {
             // For 3 and 5 of the string map the Rust answers with an empty map.

@@ -129,20 +129,70 @@ impl Dex {
     }
 }
 
-/// Some instructions, whole ones, and now and then bytes after them.
+/// The header of a payload, by the high byte of its first unit: 1 packed switch, 2 sparse switch, 3 array data, which alone have a width.
+pub fn payload_header(high: u8, width: u16, size: u32) -> Vec<u8> {
+    let mut out = vec![0, high];
+    if high == 3 {
+        out.extend(width.to_le_bytes());
+        out.extend(size.to_le_bytes());
+    } else {
+        out.extend((size as u16).to_le_bytes());
+    }
+    out
+}
+
+/// A payload as published ("packed-switch-payload format" and the two after it), its data these bytes again and again.
+pub fn payload(high: u8, width: u16, size: u32, data: &[u8]) -> Vec<u8> {
+    let mut out = payload_header(high, width, size);
+    let n = match high {
+        // The first key and the targets; the keys and the targets; the elements, in whole units.
+        1 => 4 + 4 * size,
+        2 => 8 * size,
+        _ => (width as u32 * size).next_multiple_of(2),
+    };
+    out.extend(data.iter().cycle().take(n as usize));
+    out
+}
+
+/// A small payload, its data often what could be taken for a use; now and then with a width or size that its data don't have.
+pub fn some_payload(rng: &mut Rng) -> Vec<u8> {
+    let high = 1 + rng.below(3) as u8;
+    let (width, size) = (rng.of(&[0, 1, 1, 2, 3, 4, 8]), rng.below(4) as u32);
+    let data = [rng.of(&[0x00, 0x1a, 0x1b, 0x22, 0x52, 0x6e, 0x73]), 0, rng.below(8) as u8, 0];
+    let mut out = payload(high, width, size, &data);
+    if rng.one_in(6) {
+        let at = 2 + rng.below(if high == 3 { 6 } else { 2 });
+        out[at] = rng.of(&[0, 1, 2, 3, 5, 0x10, 0x80, 0xff]);
+    }
+    out
+}
+
+/// Some instructions, whole ones, now and then with payloads between them, and now and then bytes after them. An operand may look like the
+/// first unit of a payload, and so may a nop's unit, which then is one.
 fn instructions(rng: &mut Rng) -> Vec<u8> {
     const OPS: [u8; 20] = [
         0x00, 0x0e, 0x12, 0x1a, 0x1a, 0x1b, 0x1c, 0x1f, 0x22, 0x24, 0x52, 0x60, 0x6d, 0x6e, 0x71, 0x78, 0xfa, 0x18, 0x13, 0x28,
     ];
     let mut out = Vec::new();
+    let payloads = rng.one_in(4);
     for _ in 0..1 + rng.below(7) {
+        if payloads && rng.one_in(3) {
+            out.extend(some_payload(rng));
+            continue;
+        }
         let op = rng.of(&OPS);
         let n = 2 * source::opcode_lengths::units(op) as usize;
         let at = out.len();
         out.resize(at + n, 0);
         out[at] = op;
+        if rng.one_in(12) {
+            out[at + 1] = rng.below(5) as u8;
+        }
         if n > 2 {
             out[at + 2] = rng.below(8) as u8;
+            if rng.one_in(12) {
+                out[at + 2..at + 4].copy_from_slice(&[0, 1 + rng.below(3) as u8]);
+            }
         }
         if n > 4 && rng.one_in(3) {
             out[at + 4] = rng.below(8) as u8;

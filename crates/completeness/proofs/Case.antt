@@ -14,8 +14,9 @@ use Rattle.dalvik.specs.Formats.{formats, formatOf, lengthOf}
 use Rattle.dalvik.specs.ClassData.{EncodedMethods, Defined, CodesOf}
 use Rattle.dalvik.specs.ClassData.Defined.{some-data}
 use Rattle.dalvik.specs.ClassData.CodesOf.{without-map}
-use Rattle.dalvik.specs.Instructions.{Kind, Instructions, Payloads}
+use Rattle.dalvik.specs.Instructions.{Kind}
 use Rattle.dalvik.specs.Instructions.Kind.{strings}
+use Rattle.dalvik.specs.Instructions.Reached.{here}
 use Rattle.completeness.specs.Completeness.{ArrayOf, Supposed}
 use Rattle.completeness.proofs.Outcomes.{Lent, Suffices, ranOf, Finds}
 use Rattle.completeness.proofs.Demand.{over-outcomes}
@@ -46,10 +47,8 @@ found-here =
 array : (m : ℕ) → ArrayOf file (codeOf 48 4 m)
 unfolding file le16 lengthOf formatOf formats
 array m = record {
-  rest = 72;
   one-or-more = lit< tt;
-  instructions = next file 64 (refl, refl, refl) (next file 68 (refl, refl, refl) (next file 70 (refl, refl, refl) (Instructions.no-more refl)));
-  payloads = Payloads.no-more refl;
+  whole = next file 64 (refl, refl, refl) (next file 68 (refl, refl, refl) (next file 70 (refl, refl, refl) (here refl)));
 }
 
 pub as-supposed : Supposed file 0 0 1 1 codes

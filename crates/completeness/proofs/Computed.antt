@@ -21,7 +21,7 @@ use Rattle.code_table.specs.Build.{Room, buildOut}
 use Rattle.kinds.specs.Width.{widthOf}
 use Rattle.kinds.specs.Kinds.{kindOf}
 use Rattle.code_item_scan.specs.Scan.{Hit, asked, hitRoom, indexAt, isTried, hitsIn, hitsBy, scanOut}
-use Rattle.insn_locator.specs.Walk.{step, walkIn, walk}
+use Rattle.insn_locator.specs.Walk.{payloadUnits, step, walkIn, walk}
 use Rattle.insn_locator.specs.Locate.{slotAt, firstOf, locateFrom, locateAll, locateOut}
 use Rattle.slot_listing.specs.Listing.{chain, listed, listOut}
 use Rattle.completeness.proofs.Owners.{tablesFor}
@@ -29,6 +29,7 @@ use Rattle.completeness.proofs.WorkedFile.{Computed}
 use Rattle.completeness.proofs.Case as whole
 use Rattle.completeness.proofs.SharedCase as shared
 use Rattle.completeness.proofs.EndCase as end
+use Rattle.completeness.proofs.PayloadCase as payload
 
 room : Room
 room = record { starts = 4; triples = 4; slots = 4; shares = 4 }
@@ -54,7 +55,9 @@ record Answers : Type 0 where
   pub shared-case : Computed shared.worked
   pub end-case : Computed end.worked
   pub jumbo-at-end : Computed end.jumbo-worked
-  -- another confirmed entry, after the last instruction: the walk goes on past the array's end
+  pub payloads-between : Computed payload.worked
+  pub payload-first : Computed payload.first-worked
+  -- another confirmed entry, after the array's end: the walk goes on past it
   pub beyond : locateAll file (tablesFor 1 codes 0 0 0) (64 ∷ 72 ∷ []) ≡ some (1 ∷ 1 ∷ [])
   -- the last block not inside: the region ends with the file, and a longer one, made up, is refused 12
   pub cut-build : buildOut (take 76 file) whole.header room .to ≡ 76
@@ -67,15 +70,18 @@ record Answers : Type 0 where
 
 answers : Answers
 unfolding whole.file whole.header whole.worked shared.file shared.header shared.worked
-    end.file end.jumbo-file end.header end.worked end.jumbo-worked hit room file codes twice close
+    end.file end.jumbo-file end.header end.worked end.jumbo-worked
+    payload.file payload.first-file payload.header payload.hit payload.worked payload.first-worked hit room file codes twice close
     buildOut codesOf mapEntry entryFrom defined successive classDataAt methodsAt sizesAt twoAt methodsFrom skipped ulebFast uleb ulebLen
     le16 le32 triplesOf startsOf withStart noStarts startOf hasStart tableOf regionEnd place joined joinedSlot stretch padded
-    scanOut kindOf hitsBy hitsIn isTried widthOf indexAt locateOut locateAll locateFrom slotAt firstOf walk walkIn step unitsOf listOut listed chain
+    scanOut kindOf hitsBy hitsIn isTried widthOf indexAt locateOut locateAll locateFrom slotAt firstOf walk walkIn step payloadUnits unitsOf listOut listed chain
 answers = record {
   whole-case = record { build = refl; scan = refl; located = refl; listed = refl };
   shared-case = record { build = refl; scan = refl; located = refl; listed = refl };
   end-case = record { build = refl; scan = refl; located = refl; listed = refl };
   jumbo-at-end = record { build = refl; scan = refl; located = refl; listed = refl };
+  payloads-between = record { build = refl; scan = refl; located = refl; listed = refl };
+  payload-first = record { build = refl; scan = refl; located = refl; listed = refl };
   beyond = refl;
   cut-build = refl;
   cut-scan = refl;

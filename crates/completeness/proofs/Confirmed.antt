@@ -1,5 +1,6 @@
 -- Which entries are confirmed: every instruction that names a wanted index, since the walk from its array's start lands on it; and an entry
--- on which such a walk lands is one of these before the last instruction's end, where the walk meets only instructions, or lies after it.
+-- on which such a walk lands is one of these, or lies at or after the array's end, since before it the walk meets only the array's instructions
+-- and payloads.
 -- Assumes nothing.
 use Prim.Native.Nat.{ℕ, _/_, _≤_, _<_}
 use native.Mathlib.Omega.{arith}
@@ -18,14 +19,15 @@ use Rattle.code_item_scan.specs.Scan.{Hit}
 use Rattle.insn_locator.specs.Walk.{lands}
 use Rattle.insn_locator.specs.Locate.{Tables}
 use Rattle.slot_listing.specs.Listing.{listed, listOut}
-use Rattle.completeness.specs.Completeness.{Supposed, sharing, arranged, Lists, NamesWanted, AfterLast}
+use Rattle.completeness.specs.Completeness.{Supposed, sharing, arranged, Lists, NamesWanted}
 use Rattle.completeness.proofs.Outcomes.{entriesOf, Confirmed}
 use Rattle.completeness.proofs.Tests.{lt-or-le}
 use Rattle.completeness.proofs.Members.{place-of, length-arranged}
+use Rattle.insn_locator.proofs.Published.{payload-low}
 use Rattle.insn_locator.proofs.Walks.{Steps, lands-to, to-lands}
-use Rattle.completeness.proofs.Arrays.{Standing, lands-on-instruction}
+use Rattle.completeness.proofs.Arrays.{Standing, payload, instruction, lands-within}
 use Rattle.completeness.proofs.Buckets.{InBuckets, owner-of}
-use Rattle.completeness.proofs.Walks.{rest-inside, passes, in-buckets}
+use Rattle.completeness.proofs.Walks.{passes, in-buckets}
 use Rattle.completeness.proofs.Owners.{tablesFor, slotOf, owner, slot-free, no-answer}
 use Rattle.completeness.proofs.Entries.{noHit, off-at, Tells, an-entry, entry-tells, answers, answer-at}
 
@@ -63,31 +65,53 @@ module _ {s : List ℕ} {mapoff classesOff classes methods : ℕ} {codes : List 
           entry = record {
             in-list = h .1;
             entry = h .2;
-            answer = answer-at P kind wanted i j k c m (h .0) p x (h .1) (h .2) b ∙ rw (to-lands (passes P c m p (N .units) (N .instruction) .steps));
+            answer = answer-at P kind wanted i j k c m (h .0) p x (h .1) (h .2) b ∙ rw (to-lands (passes P c m p (N .units) (N .instruction)));
             confirmed = owner P i j k c m p b .not-free;
           };
         }
 
-    -- a confirmed entry lies in a bucket of an array, whose walk lands on it
+    -- a confirmed entry in a bucket of an array: its walk lands there
+    walked-to : (d : Code) → List·Memᴰ d codes → (n o x v : ℕ) → Confirmed hits words n o x v → InBuckets d (o / 16)
+        → Steps s (start d) o × (v ≡ slotOf T o)
+    walked-to d m n o x v C b = ⊎-elim yes no (case (lands s (start d) o))
+      where
+        a : v ≡ cond (lands s (start d) o) (slotOf T o) 0
+        a = sym (C .answer) ∙ answer-at P kind wanted i j k d m n o x (C .in-list) (C .entry) b
+
+        yes : lands s (start d) o ≡ true → Steps s (start d) o × (v ≡ slotOf T o)
+        yes q = (lands-to s (start d) o q, rw q at a)
+
+        no : lands s (start d) o ≡ false → Steps s (start d) o × (v ≡ slotOf T o)
+        no q = absurd (C .confirmed (rw q at a))
+
+    -- before the array's end it names a wanted index: no payload begins with an opcode of the kind
+    names-by : (d : Code) (o x : ℕ) → Tells s kind wanted o x → Standing s (stop d) (start d) o → NamesWanted s d kind wanted o x
+    names-by d o x t (payload l) = absurd (t .opcode (payload-low s (P .bytes) o l))
+    names-by d o x t (instruction {n} r i f) =
+        record { units = n; instruction = record { reached = r; there = i; fits = f }; names = t .names; is-wanted = t .is-wanted }
+
+    before-end : (d : Code) → List·Memᴰ d codes → (n o x v : ℕ) → Confirmed hits words n o x v → InBuckets d (o / 16) → o < stop d
+        → NamesWanted s d kind wanted o x
+    before-end d m n o x v C b lt =
+        names-by d o x (entry-tells P kind wanted n o x (C .in-list) (C .entry))
+        (lands-within (P .bytes) (P .each d m .inside) (P .each d m .array .whole) (walked-to d m n o x v C b .0) lt)
+
+    pub within : (d : Code) → List·Memᴰ d codes → (n o x v : ℕ) → Confirmed hits words n o x v → start d ≤ o → o < stop d
+        → NamesWanted s d kind wanted o x
+    within d m n o x v C from to = before-end d m n o x v C (record { from-first = omega arith; to-last = omega arith }) to
+
+    -- a confirmed entry lies in a bucket of an array, and its answer is the slot of that bucket
     pub record Landed (o v : ℕ) : Type 0 where
       pub d : Code
       pub found : List·Memᴰ d codes
       pub bucket : InBuckets d (o / 16)
-      pub steps : Steps s (start d) o
       pub its : v ≡ slotOf T o
 
     pub landed : (n o x v : ℕ) → Confirmed hits words n o x v → Landed o v
     landed n o x v C = ⊎-elim owned unowned (owner-of codes (o / 16))
       where
         owned : (d : Code) × List·Memᴰ d codes × InBuckets d (o / 16) → Landed o v
-        owned r =
-            let a : v ≡ cond (lands s (start (r .0)) o) (slotOf T o) 0
-            = sym (C .answer) ∙ answer-at P kind wanted i j k (r .0) (r .1) n o x (C .in-list) (C .entry) (r .2) in
-            ⊎-elim
-            (λ (q : lands s (start (r .0)) o ≡ true). record
-            { d = r .0; found = r .1; bucket = r .2; steps = lands-to s (start (r .0)) o q; its = rw q at a })
-            (λ (q : lands s (start (r .0)) o ≡ false). absurd (C .confirmed (rw q at a)))
-            (case (lands s (start (r .0)) o))
+        owned r = record { d = r .0; found = r .1; bucket = r .2; its = walked-to (r .0) (r .1) n o x v C (r .2) .1 }
 
         unowned : ((d : Code) → List·Memᴰ d codes → InBuckets d (o / 16) → ⊥) → Landed o v
         unowned f =
@@ -97,22 +121,10 @@ module _ {s : List ℕ} {mapoff classesOff classes methods : ℕ} {codes : List 
             (rw (off-at hits n o x (C .entry)) at
             (answers P kind wanted i j k .each n (omega (arith, C .in-list, length-map hits (λ (z : Hit). z .off)))))))
 
-    -- and there it names a wanted index, or lies after the last instruction
-    pub which : (n o x v : ℕ) → Confirmed hits words n o x v
-        → (l : Landed o v) → NamesWanted s (l .d) kind wanted o x ⊎ AfterLast s (l .d) o
-    which n o x v C l = ⊎-elim before after (lt-or-le o (P .each (l .d) (l .found) .array .rest))
-      where
-        before : o < P .each (l .d) (l .found) .array .rest → NamesWanted s (l .d) kind wanted o x ⊎ AfterLast s (l .d) o
-        before lt =
-            let S : Standing s (stop (l .d)) (start (l .d)) o
-            = lands-on-instruction (P .bytes) (P .each (l .d) (l .found) .array .instructions) (rest-inside P (l .d) (l .found)) (l .steps) lt in
-            let t : Tells s kind wanted o x = entry-tells P kind wanted n o x (C .in-list) (C .entry) in
-            inl (record {
-              units = S .n;
-              instruction = record { reached = S .reached; there = S .there; fits = S .fits };
-              names = t .names;
-              is-wanted = t .is-wanted;
-            })
-
-        after : P .each (l .d) (l .found) .array .rest ≤ o → NamesWanted s (l .d) kind wanted o x ⊎ AfterLast s (l .d) o
-        after le = inr (λ p n I. omega (arith, passes P (l .d) (l .found) p n I .by))
+    -- and there it names a wanted index, or lies at or after the array's end
+    pub which : (n o x v : ℕ) → Confirmed hits words n o x v → (l : Landed o v) → NamesWanted s (l .d) kind wanted o x ⊎ (stop (l .d) ≤ o)
+    which n o x v C l =
+        ⊎-elim
+        (λ (h : o < stop (l .d)). inl (before-end (l .d) (l .found) n o x v C (l .bucket) h))
+        (λ (h : stop (l .d) ≤ o). inr h)
+        (lt-or-le o (stop (l .d)))

@@ -35,7 +35,7 @@ use Rattle.completeness.proofs.Few.{codes-few, shares-few}
 use Rattle.completeness.proofs.Walks.{tested, all-inside, in-buckets}
 use Rattle.completeness.proofs.Owners.{tablesFor, slotOf, Owner, owner}
 use Rattle.completeness.proofs.Entries.{entries-rise, answers}
-use Rattle.completeness.proofs.Confirmed.{lists-methods, Entered, entered, Landed, landed, which}
+use Rattle.completeness.proofs.Confirmed.{lists-methods, Entered, entered, within, Landed, landed, which}
 
 pub kind-read : (kind : Kind) → kindOf (kindNumber kind) ≡ some kind
 unfolding kindOf
@@ -156,6 +156,7 @@ module _ (s : List ℕ) (h : DexHeader) (codes : List Code) (P : Supposed s (h .
     once = λ n l a b e.
         rising-once (offs hits) (entries-rise P kind wanted) n l
         (omega (arith, length-map hits (λ (z : Hit). z .off))) (omega (arith, length-map hits (λ (z : Hit). z .off))) e;
+    sound = λ c m n o x v C. within P kind wanted i j k c m n o x v C;
     others = lies;
   }
 

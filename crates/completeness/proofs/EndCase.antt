@@ -14,7 +14,7 @@ use Rattle.dalvik.specs.Formats.{formats, formatOf, lengthOf}
 use Rattle.dalvik.specs.ClassData.{EncodedMethods, Defined, CodesOf}
 use Rattle.dalvik.specs.ClassData.Defined.{some-data}
 use Rattle.dalvik.specs.ClassData.CodesOf.{without-map}
-use Rattle.dalvik.specs.Instructions.{Instructions, Payloads}
+use Rattle.dalvik.specs.Instructions.Reached.{here}
 use Rattle.completeness.specs.Completeness.{ArrayOf, Supposed}
 use Rattle.completeness.proofs.WorkedFile.{coded, class-data, next, codeOf, codesFrom, supposed, headerOf, Worked}
 
@@ -58,10 +58,8 @@ file = ending 0 0 0x1a 0 0x05 0
 array : (m : ℕ) → ArrayOf file (codeOf 48 4 m)
 unfolding file le16 lengthOf formatOf formats
 array m = record {
-  rest = 72;
   one-or-more = lit< tt;
-  instructions = next file 64 (refl, refl, refl) (next file 66 (refl, refl, refl) (next file 68 (refl, refl, refl) (Instructions.no-more refl)));
-  payloads = Payloads.no-more refl;
+  whole = next file 64 (refl, refl, refl) (next file 66 (refl, refl, refl) (next file 68 (refl, refl, refl) (here refl)));
 }
 
 as-supposed : Supposed file 0 0 1 1 codes
@@ -78,10 +76,8 @@ jumbo-file = ending 0x1b 0 0x05 0 0 0
 jumbo-array : (m : ℕ) → ArrayOf jumbo-file (codeOf 48 4 m)
 unfolding jumbo-file le16 lengthOf formatOf formats
 jumbo-array m = record {
-  rest = 72;
   one-or-more = lit< tt;
-  instructions = next jumbo-file 64 (refl, refl, refl) (next jumbo-file 66 (refl, refl, refl) (Instructions.no-more refl));
-  payloads = Payloads.no-more refl;
+  whole = next jumbo-file 64 (refl, refl, refl) (next jumbo-file 66 (refl, refl, refl) (here refl));
 }
 
 jumbo-as-supposed : Supposed jumbo-file 0 0 1 1 codes

@@ -4,6 +4,7 @@
 use Prim.Native.Nat.{ℕ, _+_, _-_, _*_, _/_, _≤_, _<_}
 use native.Mathlib.Omega.{arith}
 use mathlib.Core.Path.{_≡_, sym, _∙_, ap}
+use mathlib.Core.Logic.{_≢_}
 use mathlib.Core.Bool.{cond}
 use mathlib.Core.List.{List, List·Memᴰ, Memᴰ·cast}
 use lib.ListN.{length, getD, replicate, length-map, List·getD-map}
@@ -25,7 +26,7 @@ use Rattle.completeness.proofs.Tests.{isIn-mem, mem-isIn}
 use Rattle.completeness.proofs.Members.{at-place}
 use Rattle.insn_locator.proofs.Walks.{steps-le}
 use Rattle.completeness.proofs.Buckets.{InBuckets}
-use Rattle.completeness.proofs.Widths.{index-fits, Seen, named-width, width-names}
+use Rattle.completeness.proofs.Widths.{zero-width, index-fits, Seen, named-width, width-names}
 use Rattle.completeness.proofs.Locates.{Located, located, none-yet}
 use Rattle.completeness.proofs.Rises.{above-rising}
 use Rattle.completeness.proofs.Walks.{before-end, passes, at-even}
@@ -37,8 +38,9 @@ noHit = record { off = 0; mark = 0 }
 pub off-at : (hits : List Hit) (n o x : ℕ) → getD hits n noHit ≡ record { off = o; mark = x } → getD (offs hits) n 0 ≡ o
 off-at hits n o x e = List·getD-map (λ (z : Hit). z .off) hits n noHit ∙ ap (λ (z : Hit). z .off) e
 
--- what a hit tells: the index is one that an instruction of the kind with this opcode names, and it is wanted
+-- what a hit tells: the index is one that an instruction of the kind with this opcode, which isn't 0, names, and it is wanted
 pub record Tells (s : List ℕ) (kind : Kind) (wanted : List ℕ) (o x : ℕ) : Type 0 where
+  pub opcode : byte s o ≢ 0
   pub names : Names s o x kind
   pub is-wanted : List·Memᴰ x wanted
 
@@ -57,7 +59,7 @@ module _ {s : List ℕ} {mapoff classesOff classes methods : ℕ} {codes : List 
   hits = entriesOf s codes kind wanted
 
   low : (d : Code) → List·Memᴰ d codes → (p x : ℕ) → NamesWanted s d kind wanted p x → from ≤ p
-  low d m p x N = omega (arith, base-le m, steps-le (passes P d m p (N .units) (N .instruction) .steps))
+  low d m p x N = omega (arith, base-le m, steps-le (passes P d m p (N .units) (N .instruction)))
 
   -- an instruction that names a wanted index passes the scan's test
   tested : (d : Code) → List·Memᴰ d codes → (p x : ℕ) → NamesWanted s d kind wanted p x → Tested s Q p
@@ -87,6 +89,7 @@ module _ {s : List ℕ} {mapoff classesOff classes methods : ℕ} {codes : List 
       let r = hits-sound s Q (record { off = o; mark = x }) (Memᴰ·cast (sym e) (at-place noHit hits n l)) in
       let q : indexBy s kind o ≡ x = sym (ap (λ (z : Hit). z .mark) (r .1)) in
       record {
+        opcode = λ z. omega (arith, zero-width kind, rw z at (r .0 .some-width));
         names = rw q at (width-names s kind o (r .0 .some-width));
         is-wanted = rw q at (isIn-mem (indexBy s kind o) wanted (r .0 .wanted));
       }

@@ -26,4 +26,5 @@ pub mod WorkedFile
 pub mod Case
 pub mod SharedCase
 pub mod EndCase
+pub mod PayloadCase
 pub mod Computed

@@ -9,7 +9,7 @@ use lib.ListN.{length, getD}
 use Rattle.words.specs.Padded.{padded}
 use Rattle.refusal.specs.Outcomes.{Outcome}
 use Rattle.tinydex.specs.declared.DexHeader.{DexHeader}
-use Rattle.dalvik.specs.CodeItem.{Code}
+use Rattle.dalvik.specs.CodeItem.{Code, start, stop}
 use Rattle.dalvik.specs.Instructions.{Kind}
 use Rattle.code_table.specs.Slots.{baseOf, topOf, tableOf}
 use Rattle.code_table.specs.RegionEnd.{regionEnd}
@@ -122,6 +122,8 @@ pub record Finds (s : List ℕ) (codes : List Code) (kind : Kind) (wanted : List
   -- no two entries have one offset
   pub once : (k l : ℕ) → k < length (R .scan .hits) → l < length (R .scan .hits)
       → getD (offs (R .scan .hits)) k 0 ≡ getD (offs (R .scan .hits)) l 0 → k ≡ l
+  pub sound : (c : Code) → List·Memᴰ c codes → (k off mark slot : ℕ) → Confirmed (R .scan .hits) (R .located .list) k off mark slot
+      → start c ≤ off → off < stop c → NamesWanted s c kind wanted off mark
   pub others : (k off mark slot : ℕ) → Confirmed (R .scan .hits) (R .located .list) k off mark slot
       → Lies s codes kind wanted (R .shares) (record { off = off; index = mark; slot = slot })
 

@@ -14,8 +14,8 @@ use Rattle.dalvik.specs.CodeItem.{Code}
 use Rattle.dalvik.specs.Formats.{formats, formatOf, lengthOf}
 use Rattle.dalvik.specs.ClassData.{EncodedMethods, Successive, CodesOf}
 use Rattle.dalvik.specs.ClassData.CodesOf.{by-map}
-use Rattle.dalvik.specs.Instructions.{Instructions, Payloads}
 use Rattle.dalvik.specs.Instructions.Payload.{packed-switch}
+use Rattle.dalvik.specs.Instructions.Reached.{here, past-payload}
 use Rattle.completeness.specs.Completeness.{ArrayOf, Supposed}
 use Rattle.completeness.proofs.WorkedFile.{one-byte, coded, class-data, next, codeOf, codesFrom, supposed, headerOf, Worked}
 
@@ -48,10 +48,8 @@ found-here =
 array : (m : ℕ) → ArrayOf file (codeOf 36 10 m)
 unfolding file le16 lengthOf formatOf formats
 array m = record {
-  rest = 64;
   one-or-more = lit< tt;
-  instructions = next file 52 (refl, refl, refl) (next file 56 (refl, refl, refl) (next file 62 (refl, refl, refl) (Instructions.no-more refl)));
-  payloads = Payloads.one-more {p = 64} (packed-switch refl) (lit≤ tt) (Payloads.no-more refl);
+  whole = next file 52 (refl, refl, refl) (next file 56 (refl, refl, refl) (next file 62 (refl, refl, refl) (past-payload {a = 64} (packed-switch refl) (lit≤ tt) (here refl))));
 }
 
 as-supposed : Supposed file 4 0 0 3 codes

@@ -15,10 +15,9 @@ use Rattle.dalvik.specs.CodeItem.{Code}
 use Rattle.class_data.specs.Stored.{firstBucket, lastBucket}
 use Rattle.code_table.specs.Slots.{baseOf, topOf, Table, joined, joinedSlot, place, tableFrom, tableOf}
 use Rattle.code_table.proofs.Buckets.{base-le, top-lt}
-use Rattle.completeness.specs.Completeness.{ArrayOf, Supposed, sharing, arranged}
+use Rattle.completeness.specs.Completeness.{Supposed, sharing, arranged}
 use Rattle.completeness.proofs.Tests.{eq-or-not, lt-or-le, getD-zeros}
 use Rattle.completeness.proofs.Members.{sharing-append}
-use Rattle.completeness.proofs.Arrays.{instructions-end}
 use Rattle.completeness.proofs.Buckets.{InBuckets, one-item, one-offset}
 use Rattle.completeness.proofs.Shares.{Stands, free, stands-append, adds, arranged-snoc, join, joined-length}
 use Rattle.completeness.proofs.Stretches.{stretch-below, stretch-in, stretch-above}
@@ -46,7 +45,7 @@ place-shares base c t = refl
 module _ {s : List ℕ} {mapoff classesOff classes methods : ℕ} {codes : List Code} (P : Supposed s mapoff classesOff classes methods codes) where
   -- an array has a unit
   pub some-units : (c : Code) → List·Memᴰ c codes → 0 < c .units
-  some-units c m = let A : ArrayOf s c = P .each c m .array in omega (arith, A .one-or-more, instructions-end (A .instructions) (A .one-or-more))
+  some-units c m = omega (arith, P .each c m .array .one-or-more)
 
   -- the table after some of the codes
   record Good (done : List Code) (t : Table) : Type 0 where

@@ -1,4 +1,4 @@
--- What the supposition says of each array's walk: the array lies in the file and in the region, the walk from its start passes each of its
+-- What the supposition says of each array's walk: the array lies in the file and in the region, the walk from its start comes to each of its
 -- instructions, and these stand in its buckets, at even offsets.
 -- Assumes nothing.
 use Prim.Native.Nat.{ℕ, _/_, _%_, _≤_}
@@ -11,8 +11,8 @@ use Rattle.dalvik.specs.Instructions.{InstructionOf}
 use Rattle.code_table.specs.RegionEnd.{regionEnd}
 use Rattle.code_table.proofs.RegionEnd.{end-holds, AllInside}
 use Rattle.completeness.specs.Completeness.{Supposed}
-use Rattle.insn_locator.proofs.Walks.{steps-le, steps-even}
-use Rattle.completeness.proofs.Arrays.{instructions-end, Passed, lands-on-each}
+use Rattle.insn_locator.proofs.Walks.{Steps, steps-le, steps-even}
+use Rattle.completeness.proofs.Arrays.{comes-to}
 use Rattle.completeness.proofs.Buckets.{InBuckets}
 use Rattle.completeness.proofs.Slots.{some-units}
 use Rattle.completeness.proofs.Found.{AllTested}
@@ -31,20 +31,12 @@ module _ {s : List ℕ} {mapoff classesOff classes methods : ℕ} {codes : List 
   pub before-end : (d : Code) → List·Memᴰ d codes → stop d ≤ regionEnd (length s) codes
   before-end d m = end-holds (length s) codes d m (all-inside d m)
 
-  module _ (d : Code) (m : List·Memᴰ d codes) where
-    pub rest-inside : P .each d m .array .rest ≤ length s
-    rest-inside = omega (arith, instructions-end (P .each d m .array .instructions) (P .each d m .array .one-or-more), P .each d m .inside)
+  module _ (d : Code) (m : List·Memᴰ d codes) (p n : ℕ) (I : InstructionOf s d p n) where
+    pub passes : Steps s (start d) p
+    passes = comes-to (P .bytes) (P .each d m .inside) (I .reached)
 
-    module _ (p n : ℕ) (I : InstructionOf s d p n) where
-      pub passes : Passed s (start d) (P .each d m .array .rest) p n
-      passes =
-          lands-on-each (P .bytes) (P .each d m .array .instructions) (P .each d m .array .payloads) rest-inside (I .reached) (I .there) (I .fits)
+    pub in-buckets : InBuckets d (p / 16)
+    in-buckets = record { from-first = omega (arith, steps-le passes); to-last = omega (arith, I .fits, I .there .some-size) }
 
-      pub in-buckets : InBuckets d (p / 16)
-      in-buckets = record {
-        from-first = omega (arith, steps-le (passes .steps));
-        to-last = omega (arith, I .fits, I .there .some-size);
-      }
-
-      pub at-even : p % 2 ≡ 0
-      at-even = steps-even (passes .steps) (omega (arith, P .each d m .aligned))
+    pub at-even : p % 2 ≡ 0
+    at-even = steps-even passes (omega (arith, P .each d m .aligned))

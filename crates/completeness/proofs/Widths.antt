@@ -24,6 +24,14 @@ use Rattle.kinds.specs.Width.{typeOpcodes, fieldOpcodes, methodOpcodes, widthOf
 use Rattle.code_item_scan.specs.Scan.{indexAt}
 use Rattle.completeness.proofs.Tests.{no-test, lt-or-le}
 
+-- nothing is named by opcode 0, with which payloads begin
+pub zero-width : (kind : Kind) → widthOf kind 0 ≡ 0
+unfolding widthOf
+zero-width strings = refl
+zero-width types = refl
+zero-width fields = refl
+zero-width methods = refl
+
 -- ---- ranges
 data Within (op : ℕ) : List Range → Type 0 where
   this : {r : Range} {rs : List Range} → r .from ≤ op → op ≤ r .to → Within op (r ∷ rs)

@@ -9,7 +9,7 @@ use lib.ListN.{length, getD}
 use Rattle.dalvik.specs.CodeItem.{Code}
 use Rattle.dalvik.specs.Instructions.{Kind}
 use Rattle.code_item_scan.specs.Scan.{Hit, offs, marks}
-use Rattle.completeness.specs.Completeness.{FindWords, entryAt, Lists, NamesWanted, Shows, Lies, Delivers}
+use Rattle.completeness.specs.Completeness.{FindWords, entryAt, Lists, NamesWanted, Shows, Delivers}
 use Rattle.completeness.proofs.Outcomes.{Ran, Rising, Confirmed, Shown, Finds}
 
 abbrev noHit : Hit
@@ -68,18 +68,21 @@ module _ {s : List ℕ} {codes : List Code} {kind : Kind} {wanted : List ℕ} {R
       let z : getD (offs hits) i 0 < getD (offs hits) j 0 = F .rising i j p q′ in
       rw (H .offs i, H .offs j) z
 
-  lies : (k : ℕ) → k < length hits → entryAt w k .slot ≢ 0 → Lies s codes kind wanted (w .table .shares) (entryAt w k)
-  lies k l n =
-      rw (H .shares)
-      (F .others k (entryAt w k .off) (entryAt w k .index) (entryAt w k .slot)
-      (record {
-        in-list = l;
-        entry =
-            hit-is (getD hits k noHit) (entryAt w k .off) (entryAt w k .index)
-            (sym (off-at hits k) ∙ sym (H .offs k)) (sym (mark-at hits k) ∙ sym (H .marks k));
-        answer = sym (H .answers k);
-        confirmed = n;
-      }))
+  entry-of : (k : ℕ) → k < length hits → entryAt w k .slot ≢ 0
+      → Confirmed hits (R .located .list) k (entryAt w k .off) (entryAt w k .index) (entryAt w k .slot)
+  entry-of k l n = record {
+    in-list = l;
+    entry =
+        hit-is (getD hits k noHit) (entryAt w k .off) (entryAt w k .index)
+        (sym (off-at hits k) ∙ sym (H .offs k)) (sym (mark-at hits k) ∙ sym (H .marks k));
+    answer = sym (H .answers k);
+    confirmed = n;
+  }
 
   pub delivers : Delivers s codes kind wanted (length hits) w
-  delivers = record { complete = shows; rising = rises; others = lies }
+  delivers = record {
+    complete = shows;
+    rising = rises;
+    sound = λ c m k l n. F .sound c m k (entryAt w k .off) (entryAt w k .index) (entryAt w k .slot) (entry-of k l n);
+    others = λ k l n. rw (H .shares) (F .others k (entryAt w k .off) (entryAt w k .index) (entryAt w k .slot) (entry-of k l n));
+  }

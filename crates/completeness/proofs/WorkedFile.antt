@@ -20,7 +20,8 @@ use Rattle.dalvik.specs.CodeItem.{Code, insns-size}
 use Rattle.dalvik.specs.Formats.{lengthOf}
 use Rattle.dalvik.specs.ClassData.{EncodedMethods, ClassData, CodesOf}
 use Rattle.dalvik.specs.ClassData.EncodedMethods.{with-code}
-use Rattle.dalvik.specs.Instructions.{Instruction, Instructions}
+use Rattle.dalvik.specs.Instructions.{Instruction, Reached}
+use Rattle.dalvik.specs.Instructions.Reached.{past-instruction}
 use Rattle.dalvik.specs.Instructions.Kind.{strings}
 use Rattle.code_table.specs.Build.{Build}
 use Rattle.code_table.specs.Answer.{tableWords}
@@ -100,10 +101,10 @@ module _ (s : List ℕ) where
     all = refl;
   }
 
-  -- ---- an instruction, of which others follow. A unit below 0x0100 opens no payload
+  -- ---- an instruction, after which the array goes on. A unit below 0x0100 opens no payload
   pub next : {e q : ℕ} (p : ℕ)
       → (ltb (le16 s p) 256 ≡ true) × (ltb 0 (lengthOf (byte s p)) ≡ true) × (leb (p + 2 * lengthOf (byte s p)) e ≡ true)
-      → Instructions s e (p + 2 * lengthOf (byte s p)) q → Instructions s e p q
+      → Reached s e (p + 2 * lengthOf (byte s p)) q → Reached s e p q
   next {e} p t rest =
       let h : le16 s p < 256 = ltb-true (le16 s p) 256 (t .0) in
       let there : Instruction s p (lengthOf (byte s p)) = record {
@@ -113,7 +114,7 @@ module _ (s : List ℕ) where
         size = refl;
         some-size = ltb-true 0 (lengthOf (byte s p)) (t .1);
       } in
-      Instructions.one-more there (leb-true (p + 2 * lengthOf (byte s p)) e (t .2)) rest
+      past-instruction there (leb-true (p + 2 * lengthOf (byte s p)) e (t .2)) rest
 
   -- ---- the supposition
   module _ (off units : ℕ) where

@@ -13,7 +13,7 @@ use Rattle.tinydex.specs.declared.DexHeader.{DexHeader}
 use Rattle.dalvik.specs.Numbers.{Bytes}
 use Rattle.dalvik.specs.CodeItem.{Code, start, stop}
 use Rattle.dalvik.specs.ClassData.{CodesOf}
-use Rattle.dalvik.specs.Instructions.{Kind, Instructions, Payloads, InstructionOf, Names}
+use Rattle.dalvik.specs.Instructions.{Kind, Reached, InstructionOf, Names}
 use Rattle.kinds.specs.Kinds.{kindNumber}
 use Rattle.code_table.specs.Answer.{TableWords}
 use Rattle.code_item_scan.specs.Answers.{HitWords}
@@ -51,13 +51,11 @@ pub record BlockOf (c : Code) (b : ℕ) : Type 0 where
   pub before-stop : at < stop c
   pub holds : at / 16 ≡ b
 
--- "each array is one or more whole published instructions and then only payloads"
+-- "whole published instructions", with "payloads anywhere among their instructions": one or more, one after another, up to the array's end
+-- exactly. That one of them is an instruction isn't supposed
 pub record ArrayOf (s : List ℕ) (c : Code) : Type 0 where
-  -- where the last instruction ends and the payloads begin
-  pub rest : ℕ
-  pub one-or-more : start c < rest
-  pub instructions : Instructions s (stop c) (start c) rest
-  pub payloads : Payloads s (stop c) rest
+  pub one-or-more : start c < stop c
+  pub whole : Reached s (stop c) (start c) (stop c)
 
 -- a code as published: "indices with code are below methods.size and 16,777,216", "code offsets multiples of 4", "code items .. lie inside":
 -- an item ends with its array, and the file may end there too
@@ -136,10 +134,6 @@ pub record NamesWanted (s : List ℕ) (c : Code) (kind : Kind) (wanted : List �
   pub names : Names s off index kind
   pub is-wanted : List·Memᴰ index wanted
 
--- the offset lies after the last instruction of the array of c: at or past the end of each
-abbrev pub AfterLast : List ℕ → Code → ℕ → Type 0
-AfterLast s c off = (p n : ℕ) → InstructionOf s c p n → p + 2 * n ≤ off
-
 -- an entry: its offset, the index beside it, and its answer, which is a slot word other than 0 where it is confirmed
 pub record Entry : Type 0 where
   pub off : ℕ
@@ -159,23 +153,26 @@ pub record Shows (codes : List Code) (c : Code) (n : ℕ) (w : FindWords) (off i
   pub lists : Lists codes c (w .table .shares) (entryAt w k .slot)
 
 -- where a confirmed entry lies: in a block of an array of which its slot lists the methods, and there it is an instruction naming a wanted
--- index, or else after that array's last instruction
+-- index, or else at or after that array's end
 pub record Lies (s : List ℕ) (codes : List Code) (kind : Kind) (wanted shares : List ℕ) (e : Entry) : Type 0 where
   pub c : Code
   pub found : List·Memᴰ c codes
   pub block : BlockOf c (e .off / 16)
   pub lists : Lists codes c shares (e .slot)
-  pub which : NamesWanted s c kind wanted (e .off) (e .index) ⊎ AfterLast s c (e .off)
+  pub which : NamesWanted s c kind wanted (e .off) (e .index) ⊎ (stop c ≤ e .off)
 
 -- the n entries in the words w
 pub record Delivers (s : List ℕ) (codes : List Code) (kind : Kind) (wanted : List ℕ) (n : ℕ) (w : FindWords) : Type 0 where
-  -- "Every instruction naming a wanted string, type, field or method index is a confirmed entry .. with that index beside it, and its slot
-  -- lists exactly the methods with that code, each once"
+  -- no use is lost: "Every instruction naming a wanted string, type, field or method index is a confirmed entry .. with that index beside it,
+  -- and its slot lists exactly the methods with that code, each once"
   pub complete : (c : Code) → List·Memᴰ c codes → (off index : ℕ) → NamesWanted s c kind wanted off index → Shows codes c n w off index
   -- ".. once, by rising offset"
   pub rising : (i j : ℕ) → i < j → j < n → entryAt w i .off < entryAt w j .off
-  -- "Any other confirmed entry lies in a block of an array, after that array's last instruction"; "the listing of each confirmed entry's
-  -- slot .. succeed[s]"
+  -- none is invented: a confirmed entry within an array is such an instruction of it
+  pub sound : (c : Code) → List·Memᴰ c codes → (k : ℕ) → k < n → entryAt w k .slot ≢ 0 → start c ≤ entryAt w k .off → entryAt w k .off < stop c
+      → NamesWanted s c kind wanted (entryAt w k .off) (entryAt w k .index)
+  -- "any other confirmed entry lies in a block of an array, [after] that array's end"; "the listing of each confirmed entry's slot ..
+  -- succeed[s]"
   pub others : (k : ℕ) → k < n → entryAt w k .slot ≢ 0 → Lies s codes kind wanted (w .table .shares) (entryAt w k)
 
 -- what the finder is called with: a file, its header record, a kind's number and the wanted indices

@@ -23,17 +23,7 @@ pub record Instruction (s : List ℕ) (p n : ℕ) : Type 0 where
   pub size : lengthOf (byte s p) ≡ n
   pub some-size : 0 < n
 
--- instructions one after another, from p to q; each ends by e
-pub data Instructions (s : List ℕ) (e : ℕ) : ℕ → ℕ → Type 0 where
-  no-more : {p q : ℕ} → p ≡ q → Instructions s e p q
-  one-more : {p q n : ℕ} → Instruction s p n → p + 2 * n ≤ e → Instructions s e (p + 2 * n) q → Instructions s e p q
-
--- payloads one after another, from p to e exactly
-pub data Payloads (s : List ℕ) (e : ℕ) : ℕ → Type 0 where
-  no-more : {p : ℕ} → p ≡ e → Payloads s e p
-  one-more : {p n : ℕ} → Payload s p n → p + 2 * n ≤ e → Payloads s e (p + 2 * n) → Payloads s e p
-
--- payloads and instructions one after another, from a to p; each ends by e
+-- payloads and instructions one after another, in any order, from a to p; each ends by e
 pub data Reached (s : List ℕ) (e : ℕ) : ℕ → ℕ → Type 0 where
   here : {a p : ℕ} → a ≡ p → Reached s e a p
   past-payload : {a p n : ℕ} → Payload s a n → a + 2 * n ≤ e → Reached s e (a + 2 * n) p → Reached s e a p

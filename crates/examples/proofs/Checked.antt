@@ -15,10 +15,11 @@ use Rattle.opcodes.specs.Length.{lengthRead, unitsOf}
 use Rattle.kinds.specs.Width.{widthOf}
 use Rattle.kinds.specs.Kinds.{kindOf}
 use Rattle.code_item_scan.specs.Scan.{scanOut, hitsBy, hitsIn, isTried, indexAt}
+use Rattle.insn_locator.specs.Walk.{payloadUnits, step}
 use Rattle.examples.specs.Table.{Table}
 
 pub checked : Table
-unfolding ulebFast uleb ulebLen lengthRead unitsOf stringText afterLength textFrom firstZero zeroOf le16 le32 idsWhere joined tabulate groupsOf stretchOf scanOut kindOf hitsBy hitsIn isTried widthOf indexAt stretch joinedSlot place tableOf chain listed listOut joinedShare owner
+unfolding ulebFast uleb ulebLen lengthRead unitsOf stringText afterLength textFrom firstZero zeroOf le16 le32 idsWhere joined tabulate groupsOf stretchOf scanOut kindOf hitsBy hitsIn isTried widthOf indexAt stretch joinedSlot place tableOf chain listed listOut joinedShare owner step payloadUnits
 checked = record {
   two-bytes = refl;
   greatest = refl;
@@ -37,6 +38,13 @@ checked = record {
   larger-index = refl;
   length-prefix = refl;
   before-all = refl;
+  packed-switch = refl;
+  packed-switch-cut = refl;
+  sparse-switch = refl;
+  array-data = refl;
+  greatest-data = refl;
+  other-unit = refl;
+  single-byte = refl;
   return-void = refl;
   const-string = refl;
   const-string-jumbo = refl;

@@ -3,7 +3,8 @@
 use Prim.Native.Nat.{ℕ, _+_, _*_, _^_}
 use mathlib.Core.Path.{_≡_}
 use mathlib.Core.List.{List, [], _∷_}
-use lib.ListN.{length, getD}
+use mathlib.Core.Option.{none as no-step, some}
+use lib.ListN.{length, getD, replicate}
 use Rattle.leb128.specs.Leb.{ulebFast, ulebLen}
 use Rattle.refusal.specs.declared.Refusal.the-variants.{NumberOutside, NumberTooLong}
 use Rattle.leb128.specs.declared.Uleb.the-variants.{Number, Refused}
@@ -21,6 +22,7 @@ use Rattle.string_search.specs.declared.Owner.the-variants.{Entry, Absent}
 use Rattle.opcodes.specs.Length.{lengthRead}
 use Rattle.opcodes.specs.declared.Length.the-variants.{Units, Nothing}
 use Rattle.code_item_scan.specs.Scan.{Scan, asked, hitRoom, scanOut}
+use Rattle.insn_locator.specs.Walk.{step}
 
 -- the scan of a region alone for index 5, with room for one hit
 abbrev scanned : List ℕ → ℕ → Scan
@@ -84,6 +86,16 @@ pub record Table : Type 0 where
   pub odd-string : scanned (0x00 ∷ 0x1a ∷ 0x00 ∷ 0x05 ∷ 0x00 ∷ 0x00 ∷ []) 1 ≡ hit-at 1
   -- methods 4, 7, 9 on one code item list as 7, 4, 9
   pub shared-code : listOut (tableOf fourSevenNine .shares) (getD (tableOf fourSevenNine .slots) 0 0) 3 ≡ success (7 ∷ 4 ∷ 9 ∷ [])
+  -- steps over payloads: a packed switch of one target, whole and cut by a byte; a sparse switch of none; three bytes of array data, which take
+  -- two units; array data of the greatest width and size
+  pub packed-switch : step (0x00 ∷ 0x01 ∷ 0x01 ∷ 0x00 ∷ replicate 8 0) 0 ≡ some 12
+  pub packed-switch-cut : step (0x00 ∷ 0x01 ∷ 0x01 ∷ 0x00 ∷ replicate 7 0) 0 ≡ no-step
+  pub sparse-switch : step (0x00 ∷ 0x02 ∷ 0x00 ∷ 0x00 ∷ []) 0 ≡ some 4
+  pub array-data : step (0x00 ∷ 0x03 ∷ 0x01 ∷ 0x00 ∷ 0x03 ∷ 0x00 ∷ 0x00 ∷ 0x00 ∷ replicate 4 0) 0 ≡ some 12
+  pub greatest-data : step (0x00 ∷ 0x03 ∷ replicate 6 0xff) 0 ≡ no-step
+  -- 00 04 opens none, nor does 00 with nothing after it
+  pub other-unit : step (0x00 ∷ 0x04 ∷ []) 0 ≡ some 2
+  pub single-byte : step (0x00 ∷ []) 0 ≡ some 2
   -- instruction lengths: an opcode of each, and one without
   pub return-void : lengthRead 0x0e ≡ Units 1
   pub const-string : lengthRead 0x1a ≡ Units 2

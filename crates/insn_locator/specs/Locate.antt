@@ -1,4 +1,4 @@
--- SPEC, Locate: which entries a walk over instructions confirms, over any tables.
+-- SPEC, Locate: which entries a walk over instructions and payloads confirms, over any tables.
 -- Assumes nothing.
 use Prim.Native.Nat.{ℕ, _+_, _-_, _*_, _/_}
 use mathlib.Core.List.{List, [], _∷_}

@@ -1,9 +1,9 @@
-// Confirms entries (`insn_verify` and `locate` of insn_locator.rs): an entry is confirmed where a walk over instructions, from its
+// Confirms entries (`insn_verify` and `locate` of insn_locator.rs): an entry is confirmed where a walk over instructions and payloads, from its
 // method's start or from that method's last confirmed entry, lands on it exactly.
-mod walk; // walk.rt: the walk over instructions, and its step
+mod walk; // walk.rt: the walk over instructions and payloads, and its step
 
 ghost use mathlib.Core.Path.{_≡_};
-ghost use Prim.Native.Nat.{_<_};
+ghost use Prim.Native.Nat.{_<_, _≤_};
 ghost use lib.ListN.{length};
 ghost use Rattle.insn_locator.specs.Answers.{tables, entryOf, locateWords, Located};
 ghost use Rattle.insn_locator.specs.Locate.{slotAt, firstOf, fromOf, tried, answeredAt, locateFrom, locateOut};
@@ -115,6 +115,7 @@ fn locate_list(
     last: &mut [u32],
     answers: &mut [u32],
 ) -> bool
+    requires { ⌜ length (now entries) ≤ length (now answers) ⌝ }
     ensures { λ r.
         let T = tables base (now (slots .entry)) (now (starts .entry)) (now (shares .entry)) in
         let run = locateFrom (now (buf .entry)) T (now (last .entry)) (now (entries .entry)) in
@@ -126,7 +127,7 @@ fn locate_list(
         else {
             return false;
         };
-        words::put(answers, i, word);
+        answers[i] = word;
         i += 1;
     }
     true

@@ -3,7 +3,7 @@
 
 use sides::case::*;
 use sides::synth::{leb, put};
-use sides::{ours, silence, theirs};
+use sides::{document, ours, silence, theirs};
 
 /// What the Rust does.
 #[derive(PartialEq)]
@@ -68,6 +68,15 @@ fn names(text: &[u8], query: &str) -> Case {
         c.query = query.into();
         c.lists[0] = vec![0];
         c.lent[0] = 9;
+    })
+}
+
+/// One method whose walk begins at 2 in this file, and one entry.
+fn walk(file: &[u8], entry: u32) -> Case {
+    with(LOCATE, |c| {
+        c.file = file.to_vec();
+        c.lists = [vec![1], vec![2], vec![], vec![entry]];
+        c.lent[..2].fill(1);
     })
 }
 
@@ -141,19 +150,22 @@ fn main() {
         ("locate, no further word", Answers, 4, with(LOCATE, |c| c.lists[1] = vec![0])),
         ("locate, a share outside", Panics, 15, with(LOCATE, |c| (c.lists[0], c.lists[3], c.lent[1]) = (vec![1 << 31], vec![0], 1))),
         ("locate, a first method without a start word", Panics, 15, with(LOCATE, |c| (c.lists[0], c.lists[3], c.lent[1]) = (vec![1], vec![0], 1))),
+        ("locate, an entry within a payload", Answers, 0, walk(&[0, 0, 0, 2, 0, 0], 4)),
+        ("locate, an entry after a payload", Answers, 0, walk(&[0, 0, 0, 3, 0x73, 0, 0, 0, 0, 0], 10)),
+        ("locate, an entry after the header of a payload that is not inside", Answers, 0, walk(&[0, 0, 0, 2, 1, 0], 6)),
     ];
     let n = rows.len();
     for (name, rust, refusal, case) in rows {
         let (ours, answer) = (ours::answer(&case), theirs::answer(&case));
-        check(ours.refusal == refusal, format!("{name}: ours {}", short(&ours)));
+        check(ours.refusal == refusal && ours == document::verdict(&case), format!("{name}: ours {}", short(case.op, &ours)));
         let does = match &answer {
             None => Panics,
             Some(a) if *a == ours => Same,
             Some(_) => Answers,
         };
-        let said = answer.map_or("panics".to_owned(), |a| short(&a));
+        let said = answer.map_or("panics".to_owned(), |a| short(case.op, &a));
         check(does == rust, format!("{name}: the Rust {said}"));
-        println!("{name}: the Rust {said}; ours {}", short(&ours));
+        println!("{name}: the Rust {said}; ours {}", short(case.op, &ours));
     }
     println!("{n} inputs, each as docs/DIFFERENCES.md says");
 }
@@ -165,9 +177,10 @@ fn check(holds: bool, what: String) {
     }
 }
 
-/// The refusal, or the out numbers.
-fn short(outcome: &Outcome) -> String {
+/// The refusal, or the out numbers; of locate the answers.
+fn short(op: u32, outcome: &Outcome) -> String {
     match outcome.refusal {
+        0 if op == LOCATE => format!("answers {:?}", outcome.outs[1]),
         0 => format!("answers {:?}", outcome.numbers),
         n => format!("refuses {n}"),
     }

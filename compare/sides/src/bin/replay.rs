@@ -2,7 +2,7 @@
 //! Usage: replay FOLDER SAMPLE; writes FOLDER/data/cases and FOLDER/stdout.
 
 use sides::case::*;
-use sides::inputs::Inputs;
+use sides::inputs::{payloads, Inputs};
 use sides::{expected, silence, Expected};
 use std::collections::HashSet;
 use std::fs;
@@ -14,6 +14,9 @@ const SEED: u64 = 20_261_115;
 const DOMAIN: usize = 240;
 const EACH_REFUSAL: usize = 12;
 const BYTES: usize = 68_000;
+
+/// Of locate's cases with payloads that every run has, one in so many; they come before, and don't count towards the others.
+const PAYLOADS: usize = 101;
 
 /// One more than the greatest refusal.
 const REFUSALS: usize = 17;
@@ -28,6 +31,14 @@ fn main() {
         let (mut domain, mut answered, mut refusals) = (0, 0, [0; REFUSALS]);
         let mut seen: HashSet<String> = HashSet::new();
         let mut bytes = 0;
+        let given = if op == LOCATE { payloads(op) } else { vec![] };
+        for case in given.iter().step_by(PAYLOADS).filter(|c| replay_takes(c)) {
+            let (Expected::Domain(o) | Expected::Off(o)) = expected(case) else { panic!("the Rust differs from SPEC: see run --op locate") };
+            case.write(&mut cases);
+            lines += &o.line(op);
+            lines.push('\n');
+            count += 1;
+        }
         for index in 0..200_000u64 {
             // Random cases and, one in ten, counted ones; small files mostly.
             let case = inputs.case(op, if index % 10 == 0 { 2 * index } else { 2 * index + 1 });

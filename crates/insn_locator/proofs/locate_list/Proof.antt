@@ -4,7 +4,7 @@ use Rattle.insn_locator.proofs.Entries.{rest, rest-fault, rest-answer, 
 use Rattle.insn_locator.specs.Answers.{tables}
 use Rattle.insn_locator.specs.Steps.{stored}
 use Rattle.insn_locator.specs.Locate.{locateFrom}
-use lib.ListN.{length}
+use lib.ListN.{length, length-set}
 use mathlib.Core.Path.{_≡_, refl, _∙_}
 use Prim.Native.Nat.{_-_, _≤_}
 use borrow.Author.Needs.{needs}
@@ -56,8 +56,11 @@ returns c =
     rest-fault (a .buf .now) T (a .entries .now) (k .i) (k .last) (k .answers) (at-loop-test .loop-test .taken)
     (rw (c .enum-told .given .1) at (c .before .before .before .before .locate-one .ensures)) ∙ k .inv .0
 
-put-requires : tie.Need-put-requires Inv-loop μ-loop
-put-requires c κs = search needs
+mul-answers : tie.Need-mul-answers Inv-loop μ-loop
+mul-answers c = search needs
+
+slice-write-answers : tie.Need-slice-write-answers Inv-loop μ-loop
+slice-write-answers c = search needs
 
 add-i : tie.Need-add-i Inv-loop μ-loop
 add-i c = search needs
@@ -67,8 +70,7 @@ loop-less c = search needs
 
 loop-again : tie.Need-loop-again Inv-loop μ-loop
 loop-again c =
-    let at-put = c .before .before in
-    let at-word = at-put .before .before .before in
+    let at-word = c .before in
     let at-locate-one = at-word .before .before .before .before in
     let at-loop-test = at-locate-one .before .before .before in
     let at-loop = at-loop-test .before in
@@ -77,10 +79,10 @@ loop-again c =
     let T = tables (a .base) (a .slots .now) (a .starts .now) (a .shares .now) in
     let k = at-loop .loop in (
       rest-answer (a .buf .now) T (a .entries .now) (k .i) (k .last) (k .answers) (at-loop-test .loop-test .taken) (at-word .word .given .0 .0) _ _
-          (at-put .put .ensures) (rw (at-word .word .given .1) at (at-locate-one .locate-one .ensures)) ∙ k .inv .0,
+          refl (rw (at-word .word .given .1) at (at-locate-one .locate-one .ensures)) ∙ k .inv .0,
       omega arith,
       omega (arith, at-locate-one .locate-one .kept),
-      omega (arith, at-put .put .kept),
+      omega (arith, length-set (k .answers) (k .i) (at-word .word .given .0 .0)),
     )
 
 same-length-3 : tie.Need-same-length-3 Inv-loop μ-loop
@@ -112,7 +114,8 @@ locate-list-spec =
     same-length
     same-length-2
     returns
-    put-requires
+    mul-answers
+    slice-write-answers
     add-i
     loop-less
     loop-again

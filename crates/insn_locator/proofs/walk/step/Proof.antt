@@ -1,18 +1,23 @@
--- Each way out is one way that an opcode has a length, or none.
+-- Each way out is one thing that stands there: what begins with 0, or else an opcode with a length, or without.
 -- Assumes nothing.
+use mathlib.Core.Path.{sym}
 use native.Mathlib.Omega.{arith}
 use Rattle.words.proofs.Shared.{met}
 use Rattle.opcodes.proofs.Laws.{length-units, length-nothing}
-use Rattle.insn_locator.proofs.Steps.{step-outside, step-unknown, step-next}
+use Rattle.insn_locator.proofs.Payloads.{none-low}
+use Rattle.insn_locator.proofs.Steps.{opcode-unknown, opcode-step}
 use borrow.Author.Needs.{needs}
 use Rattle.insn_locator.proofs.walk.step.Statement.{statement}
 use Rattle.insn_locator.proofs.walk.step.Tie as tie
 
-returns : tie.Need-returns
-returns c = step-outside _ _ (omega arith)
+shared-slice-read-op : tie.Need-shared-slice-read-op
+shared-slice-read-op c = search needs
 
-shared-slice-read-oplen : tie.Need-shared-slice-read-oplen
-shared-slice-read-oplen c = search needs
+past-zero-requires : tie.Need-past-zero-requires
+past-zero-requires c κs = search needs
+
+returns : tie.Need-returns
+returns c = search needs
 
 oplen-requires : tie.Need-oplen-requires
 oplen-requires c κs = search needs
@@ -25,30 +30,34 @@ enum-told c = search needs
 
 returns-2 : tie.Need-returns-2
 returns-2 c =
-    step-unknown _ _ (c .before .before .before .before .if1 .left)
-    (length-nothing _ (met (c .enum-told .given .1) (c .before .before .oplen .ensures)))
+    let at-oplen = c .before .before in
+    sym
+    (opcode-unknown _ _ (none-low _ _ (at-oplen .before .if1 .left)) (search needs)
+    (length-nothing _ (met (c .enum-told .given .1) (at-oplen .oplen .ensures))))
 
-mul-t4 : tie.Need-mul-t4
-mul-t4 c = omega (arith, length-units _ _ (met (c .before .n .given .1) (c .before .before .before .oplen .ensures)))
+mul-t9 : tie.Need-mul-t9
+mul-t9 c = omega (arith, length-units _ _ (met (c .before .n .given .1) (c .before .before .before .oplen .ensures)))
 
-add-t9 : tie.Need-add-t9
-add-t9 c = omega (arith, length-units _ _ (met (c .before .n .given .1) (c .before .before .before .oplen .ensures)))
+add-t10 : tie.Need-add-t10
+add-t10 c = omega (arith, length-units _ _ (met (c .before .n .given .1) (c .before .before .before .oplen .ensures)))
 
 returns-3 : tie.Need-returns-3
 returns-3 c =
-    let at-if1 = c .before .before .before .before .before in
-    step-next _ _ _ (at-if1 .if1 .left) (length-units _ _ (met (c .before .n .given .1) (c .before .before .before .oplen .ensures)))
+    let at-oplen = c .before .before .before in
+    let l = length-units _ _ (met (c .before .n .given .1) (at-oplen .oplen .ensures)) in
+    sym (opcode-step _ _ (none-low _ _ (at-oplen .before .if1 .left)) (search needs) _ (sym (l .units)) (l .some))
 
 pub step-spec : {M : Type 1} → statement M
 step-spec =
     tie.close
     (tie.spec
+    shared-slice-read-op
+    past-zero-requires
     returns
-    shared-slice-read-oplen
     oplen-requires
     enum-known-n
     enum-told
     returns-2
-    mul-t4
-    add-t9
+    mul-t9
+    add-t10
     returns-3)
