@@ -44,25 +44,25 @@
  *     type_search     strings: keys_len; out: type_idxs_len
  *     method_search   strings: keys_len; types: type_idxs_len; out: methods.size
  *     name_filter     out: given_len
- *     code_table      starts: methods.size; slots: n / 16; triples, shares: three words for each code found, up to 2^31 codes
+ *     code_table      starts: 2 * methods.size; slots: n / 16; triples, shares: three words for each code found, up to 2^31 codes
  *     scan            offs, marks: n for strings, (n + 1) / 2 for the other kinds
- *     locate          answers: entries_len; further: starts_len
+ *     locate          answers: entries_len; further: starts_len / 2
  *     list_slot       methods: shares_len / 3 + 1
  *
  * How many codes are found is known beforehand only of a file in which no method has code twice, as of every file that demand 3 speaks of
  * (README.md, "What is proved"). For such a file also:
  *
  *     code_table      triples, shares: 3 * methods.size
- *     find            starts, further: methods.size; triples, shares: 3 * methods.size; slots: n / 16;
+ *     find            starts: 2 * methods.size; further: methods.size; triples, shares: 3 * methods.size; slots: n / 16;
  *                     offs, marks, answers: n for strings, (n + 1) / 2 for the other kinds
  *     list_slot       methods: methods.size, for the slot of a confirmed entry
  *
- * For example, the methods that use the string with index 7, from a file and its header:
+ * For example, the methods that use the string with index 7, from a file and its header, with room for METHODS methods:
  *
  *     size_t from, to, hits, n, i;
  *     uint32_t wanted[1] = { 7 };
- *     if (ringlinden_find(file, file_len, header, RINGLINDEN_STRING, wanted, 1, starts, STARTS, triples, TRIPLES, slots, SLOTS,
- *                         shares, SHARES, offs, HITS, marks, HITS, further, STARTS, answers, HITS, &from, &to, &hits) == 0)
+ *     if (ringlinden_find(file, file_len, header, RINGLINDEN_STRING, wanted, 1, starts, 2 * METHODS, triples, TRIPLES, slots, SLOTS,
+ *                         shares, SHARES, offs, HITS, marks, HITS, further, METHODS, answers, HITS, &from, &to, &hits) == 0)
  *         for (i = 0; i < hits; i++)
  *             if (answers[i] != 0 && ringlinden_list_slot(shares, SHARES, answers[i], methods, METHODS, &n) == 0)
  *                 show(offs[i], methods, n);
@@ -188,11 +188,13 @@ uint32_t ringlinden_name_filter(const uint8_t *file, size_t file_len, const uint
 /* ---- code ---- */
 
 /*
- * The code table. starts: a word for each method, where its code begins, 0 without code; triples: three words for each of the *codes codes
+ * The code table. starts: two words for each method, a pair, starts[2 * m] where the array of method m begins and starts[2 * m + 1] where it
+ * ends, the offset after its last byte, both of its code found last; 0 and 0 without code; triples: three words for each of the *codes codes
  * found, first 16-byte block, last, and method; slots: *slot_count words, one for each block of the region, 0, or method + 1, or
  * 2^31 + number of a share; shares: *share_count words, three for each share; the region is file[*region_start .. *region_end],
  * whole blocks, but that it ends with the file where its last block sticks out: ringlinden_scan over it is never refused 12.
- * Refusals: 1; 4, fewer start words than methods; then as the class data are read 3, 6, 16, 7, 8; 4, one of the others is too short.
+ * Refusals: 1; 4, fewer start words than two for each method; then as the class data are read 3, 6, 16, 7, 8; 4, one of the others is
+ * too short.
  */
 uint32_t ringlinden_code_table(const uint8_t *file, size_t file_len, const uint32_t header[13],
                                uint32_t *starts, size_t starts_len, uint32_t *triples, size_t triples_len,
@@ -208,10 +210,12 @@ uint32_t ringlinden_scan(const uint8_t *file, size_t file_len, uint32_t start, u
                          size_t *count);
 
 /*
- * For each entry, an offset in the file, the slot word of its block where a walk over the instructions and payloads of its method's code lands
- * on it, else 0. base: the region's first block, *region_start / 16; slots, starts and shares as ringlinden_code_table gave them; entries: ringlinden_scan's offsets.
- * further: a word for each start word, zero afterwards in every case; answers: *count words, one for each entry. Refusals: 1; 4; 15,
- * a share that is needed is outside the shares, or a first method that is needed has no start word.
+ * For each entry, an offset in the file, the slot word of its block where the entry is below the end of its method's array and a walk over the
+ * array's instructions and payloads lands on it, else 0: nothing at or past the end is confirmed. An entry counts by its first byte. The method is
+ * the first of its slot. base: the region's first block, *region_start / 16; slots, starts and shares as ringlinden_code_table gave them;
+ * entries: ringlinden_scan's offsets. further: a word for each pair of start words, zero afterwards in every case; answers: *count words, one
+ * for each entry. Refusals: 1; 4; 15, a share that is needed is outside the shares, or a first method that is needed has no pair: both its
+ * words must be there, and an odd last start word counts for nothing.
  */
 uint32_t ringlinden_locate(const uint8_t *file, size_t file_len, uint32_t base, const uint32_t *slots, size_t slots_len,
                            const uint32_t *starts, size_t starts_len, const uint32_t *shares, size_t shares_len,
@@ -229,7 +233,8 @@ uint32_t ringlinden_list_slot(const uint32_t *shares, size_t shares_len, uint32_
  * Code table, scan of its region and locate in one. starts, triples, slots and shares as of ringlinden_code_table, offs and marks as of
  * ringlinden_scan, answers as of ringlinden_locate; further: a word for each method, however many start words are lent. *hits words of
  * offs, marks and answers are the result. Refusals: those of the three, in their order, but never 12. For a file as published and lent
- * outputs that suffice no instruction of an array is missing, and none is made up: crates/findrefs has the statement.
+ * outputs that suffice the confirmed entries (answer not 0) are exactly the instructions that name a wanted index, none missing and none
+ * invented: crates/findrefs has the statement.
  */
 uint32_t ringlinden_find(const uint8_t *file, size_t file_len, const uint32_t header[13], uint32_t kind,
                          const uint32_t *wanted, size_t wanted_len, uint32_t *starts, size_t starts_len,

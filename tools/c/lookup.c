@@ -54,7 +54,7 @@ int main(int argc, char **argv)
     /* string indices -> instructions and their methods, for a file in which no method has code twice */
     blocks = file_len / 16 + 1;
     most = file_len;
-    starts = words(methods);
+    starts = words(2 * methods);
     triples = words(3 * methods);
     slots = words(blocks);
     shares = words(3 * methods);
@@ -62,7 +62,7 @@ int main(int argc, char **argv)
     marks = words(most);
     further = words(methods);
     answers = words(most);
-    need(ringlinden_find(file, file_len, header, RINGLINDEN_STRING, wanted, found, starts, methods, triples, 3 * methods, slots, blocks,
+    need(ringlinden_find(file, file_len, header, RINGLINDEN_STRING, wanted, found, starts, 2 * methods, triples, 3 * methods, slots, blocks,
                          shares, 3 * methods, offs, most, marks, most, further, methods, answers, most, &start, &end, &hits), "find");
     list = words(methods);
     for (i = 0; i < hits; i++) {

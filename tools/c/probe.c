@@ -7,8 +7,10 @@
  *                            4,000,000 strings: it is called on a stack of its own that holds a pattern
  *     probe region FILE      FILE is SPEC's whole case, which is cut at every length from its array's end on: its region ends with the file and
  *                            is scanned, and a region that is a byte longer is refused 12, with zeros
+ *     probe pairs FILE       the same, with a second use after the array's end: start words are pairs, an odd last one counts for nothing, and
+ *                            what stands at or past the end is not confirmed
  *
- * A line for each function, or for each length; exit status 1 where two calls differ, or an answer is another.
+ * A line for each function, for each length, or for each call of pairs; exit status 1 where two calls differ, or an answer is another.
  */
 #define _XOPEN_SOURCE 600
 #include "dex.h"
@@ -248,7 +250,7 @@ static void prepare(const char *phrase)
 
     table = c = add("code_table", code_table, 1, 4);
     c->s[0] = whole, c->size[0] = 1;
-    c->s[1] = some(methods), c->s[2] = some(3 * methods), c->s[3] = some(file_len / 16 + 1), c->s[4] = some(3 * methods);
+    c->s[1] = some(2 * methods), c->s[2] = some(3 * methods), c->s[3] = some(file_len / 16 + 1), c->s[4] = some(3 * methods);
     must(c, out);
     region_start = (uint32_t)out[0], region_end = (uint32_t)out[1];
 
@@ -269,7 +271,7 @@ static void prepare(const char *phrase)
 
     c = add("find", find, 2, 8);
     c->s[0] = whole, c->size[0] = 1, c->s[1] = wanted;
-    c->s[2] = some(methods), c->s[3] = some(3 * methods), c->s[4] = some(file_len / 16 + 1), c->s[5] = some(3 * methods);
+    c->s[2] = some(2 * methods), c->s[3] = some(3 * methods), c->s[4] = some(file_len / 16 + 1), c->s[5] = some(3 * methods);
     c->s[6] = some(most), c->s[7] = some(most), c->s[8] = some(methods), c->s[9] = some(most);
 }
 
@@ -404,19 +406,25 @@ static int stacks(const char *name)
     return 0;
 }
 
+/* SPEC's whole case: one method, whose array stands from 64 up to 72, a const-string of 5, return-void and nop */
+static void read_whole_case(const char *name)
+{
+    read_file(name);
+    memset(header, 0, sizeof header);
+    header[METHODS + 1] = header[CLASSES + 1] = 1;
+}
+
 /* ---- the region's end */
 
 static int regions(const char *name)
 {
     const uint32_t wanted[1] = { 5 };
-    uint32_t starts[1], triples[3], slots[5], shares[3], offs[9], marks[9], further[1], answers[9];
+    uint32_t starts[2], triples[3], slots[5], shares[3], offs[9], marks[9], further[1], answers[9];
     size_t start, end, codes, slot_count, share_count, hits, past, found;
     int bad = 0;
-    read_file(name);
-    memset(header, 0, sizeof header);
-    header[METHODS + 1] = header[CLASSES + 1] = 1;
+    read_whole_case(name);
     for (file_len = 72; file_len <= 80; file_len++) {
-        int ok = !ringlinden_code_table(file, file_len, header, starts, 1, triples, 3, slots, 5, shares, 3, &start, &end, &codes, &slot_count,
+        int ok = !ringlinden_code_table(file, file_len, header, starts, 2, triples, 3, slots, 5, shares, 3, &start, &end, &codes, &slot_count,
                                         &share_count);
         ok = ok && start == 64 && end == file_len && slot_count == 1;
         ok = ok && !ringlinden_scan(file, file_len, (uint32_t)start, (uint32_t)end, RINGLINDEN_STRING, wanted, 1, offs, 9, marks, 9, &hits);
@@ -424,12 +432,120 @@ static int regions(const char *name)
         ok = ok && ringlinden_scan(file, file_len, (uint32_t)start, (uint32_t)end + 1, RINGLINDEN_STRING, wanted, 1, offs, 9, marks, 9, &past)
             == RINGLINDEN_REGION_OUTSIDE;
         ok = ok && past == 0 && offs[0] == 0 && marks[0] == 0;
-        ok = ok && !ringlinden_find(file, file_len, header, RINGLINDEN_STRING, wanted, 1, starts, 1, triples, 3, slots, 5, shares, 3, offs, 9,
+        ok = ok && !ringlinden_find(file, file_len, header, RINGLINDEN_STRING, wanted, 1, starts, 2, triples, 3, slots, 5, shares, 3, offs, 9,
                                     marks, 9, further, 1, answers, 9, &start, &end, &found);
         ok = ok && end == file_len && found == 1 && offs[0] == 64 && answers[0] == 1;
         printf("%lu bytes: %s\n", (unsigned long)file_len, ok ? "the region ends with them, one byte more is refused" : "OTHERWISE");
         bad |= !ok;
     }
+    return bad;
+}
+
+/* ---- start words are pairs */
+
+enum { LENT = 6 };
+static uint32_t starts[LENT], further[LENT], answers[LENT], offs[LENT], marks[LENT];
+
+/* the words from place i on are zero */
+static int zero_from(const uint32_t *at, size_t i)
+{
+    while (i < LENT && !at[i])
+        i++;
+    return i == LENT;
+}
+
+static int told(int ok, const char *call, size_t starts_len, size_t further_len)
+{
+    printf("%s with %lu start words and %lu further words: %s\n", call, (unsigned long)starts_len, (unsigned long)further_len,
+           ok ? "as it must be" : "OTHERWISE");
+    return !ok;
+}
+
+/* The build of one method: 4 below two start words, else its pair and zeros. */
+static int build_pairs(size_t n)
+{
+    uint32_t triples[3], slots[5], shares[3], refusal;
+    size_t start, end, codes, slot_count, share_count;
+    int ok;
+    memset(starts, 0x5a, 4 * n);
+    refusal = ringlinden_code_table(file, file_len, header, starts, n, triples, 3, slots, 5, shares, 3, &start, &end, &codes, &slot_count,
+                                    &share_count);
+    if (n < 2)
+        ok = refusal == RINGLINDEN_LENT_TOO_SHORT && codes == 0 && end == 0 && zero_from(starts, 0);
+    else
+        ok = !refusal && codes == 1 && starts[0] == 64 && starts[1] == 72 && zero_from(starts, 2);
+    return told(ok, "code_table", n, 0);
+}
+
+/* The finder: a further word for the one method, however many start words; the use at 72 is an entry, and is not confirmed. */
+static int find_pairs(size_t n, size_t k)
+{
+    const uint32_t wanted[1] = { 5 };
+    uint32_t triples[3], slots[5], shares[3], refusal;
+    size_t start, end, hits;
+    int ok;
+    memset(starts, 0x5a, 4 * n);
+    memset(further, 0x5a, 4 * k);
+    memset(answers, 0x5a, sizeof answers);
+    refusal = ringlinden_find(file, file_len, header, RINGLINDEN_STRING, wanted, 1, starts, n, triples, 3, slots, 5, shares, 3, offs, LENT,
+                              marks, LENT, further, k, answers, LENT, &start, &end, &hits);
+    if (n < 2 || k < 1)
+        ok = refusal == RINGLINDEN_LENT_TOO_SHORT && hits == 0 && zero_from(starts, 0) && zero_from(answers, 0);
+    else
+        ok = !refusal && hits == 2 && starts[0] == 64 && starts[1] == 72 && zero_from(starts, 2) && offs[0] == 64 && offs[1] == 72 &&
+            answers[0] == 1 && zero_from(answers, 1);
+    return told(ok && zero_from(further, 0), "find", n, k);
+}
+
+/* Locate over the slot of method 0: a further word for each pair, else 4; both words of its pair, else 15. */
+static int locate_pairs(size_t n, size_t k)
+{
+    static const uint32_t slots[1] = { 1 }, lent[LENT] = { 64, 72, 1, 1, 1, 1 }, entries[3] = { 64, 70, 72 };
+    uint32_t refusal;
+    size_t count;
+    int ok;
+    memset(further, 0x5a, 4 * k);
+    memset(answers, 0x5a, sizeof answers);
+    refusal = ringlinden_locate(file, file_len, 4, slots, 1, lent, n, NULL, 0, entries, 3, further, k, answers, LENT, &count);
+    if (k < n / 2 || n < 2)
+        ok = refusal == (uint32_t)(k < n / 2 ? RINGLINDEN_LENT_TOO_SHORT : RINGLINDEN_LENT_TABLE) && count == 0 && zero_from(answers, 0);
+    else
+        ok = !refusal && count == 3 && answers[0] == 1 && answers[1] == 1 && zero_from(answers, 2);
+    return told(ok && zero_from(further, 0), "locate", n, k);
+}
+
+/* Locate with an end of e: an entry below it is confirmed, also where its instruction passes it. */
+static int locate_ends(uint32_t e)
+{
+    static const uint32_t slots[1] = { 1 }, entries[3] = { 64, 68, 70 };
+    const uint32_t lent[2] = { 64, e };
+    size_t count, i;
+    int ok = !ringlinden_locate(file, file_len, 4, slots, 1, lent, 2, NULL, 0, entries, 3, further, 1, answers, LENT, &count) && count == 3;
+    for (i = 0; i < 3; i++)
+        ok = ok && answers[i] == (entries[i] < e);
+    printf("locate with the end %u: %s\n", (unsigned)e, ok ? "as it must be" : "OTHERWISE");
+    return !ok;
+}
+
+static int pairs(const char *name)
+{
+    size_t n, k;
+    uint32_t e;
+    int bad = 0;
+    read_whole_case(name);
+    file[72] = 0x1a;
+    file[74] = 5;
+    for (n = 0; n < LENT; n++) {
+        memset(starts, 0, sizeof starts);
+        memset(further, 0, sizeof further);
+        bad |= build_pairs(n);
+        for (k = 0; k < 3; k++) {
+            bad |= find_pairs(n, k);
+            bad |= locate_pairs(n, k);
+        }
+    }
+    for (e = 0; e < 80; e++)
+        bad |= locate_ends(e);
     return bad;
 }
 
@@ -441,6 +557,8 @@ int main(int argc, char **argv)
         return stacks(argv[2]);
     if (argc == 3 && !strcmp(argv[1], "region"))
         return regions(argv[2]);
-    fprintf(stderr, "usage: probe nulls|stack|region FILE\n");
+    if (argc == 3 && !strcmp(argv[1], "pairs"))
+        return pairs(argv[2]);
+    fprintf(stderr, "usage: probe nulls|stack|region|pairs FILE\n");
     return 2;
 }

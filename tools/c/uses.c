@@ -33,7 +33,7 @@ int main(int argc, char **argv)
     while (wanted_len < file_len && scanf("%lu", &index) == 1)
         wanted[wanted_len++] = (uint32_t)index;
 
-    starts = words(methods);
+    starts = words(2 * methods);
     triples = words(file_len);
     slots = words(file_len / 16 + 1);
     shares = words(file_len);
@@ -41,7 +41,7 @@ int main(int argc, char **argv)
     marks = words(file_len);
     further = words(methods);
     answers = words(file_len);
-    need(ringlinden_find(file, file_len, header, kind_of(argv[2]), wanted, wanted_len, starts, methods, triples, file_len, slots,
+    need(ringlinden_find(file, file_len, header, kind_of(argv[2]), wanted, wanted_len, starts, 2 * methods, triples, file_len, slots,
                          file_len / 16 + 1, shares, file_len, offs, file_len, marks, file_len, further, methods, answers, file_len, &start,
                          &end, &hits), "find");
     list = words(methods);

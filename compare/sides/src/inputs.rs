@@ -439,20 +439,34 @@ impl Inputs {
             let n = rng.below(12);
             let (a, e) = (numbers[0], numbers[1].min(file.len() + 3));
             case.lists[3] = (0..n).map(|_| (a + rng.below((e + 2).saturating_sub(a).max(1))) as u32).collect();
-            // Starts of instructions and payloads: what the walks confirm.
-            for &start in case.lists[1].clone().iter().filter(|&&s| s != 0) {
-                let mut pos = start as usize;
+            // Starts of instructions and payloads: what the walks confirm, and past the ends of arrays would.
+            for pair in case.lists[1].clone().chunks(2).filter(|pair| pair[0] != 0) {
+                let mut pos = pair[0] as usize;
                 for _ in 0..rng.below(6) {
                     if rng.one_in(2) {
                         case.lists[3].push(pos as u32);
                     }
                     pos = document::step(&file, pos).unwrap_or(pos + 2);
                 }
+                if rng.one_in(3) {
+                    case.lists[3].push(rng.near(pair[1]));
+                }
             }
             if !rng.one_in(4) {
                 case.lists[3].sort();
             }
             case.file = file;
+            // Pairs otherwise than a build leaves them.
+            if rng.one_in(4) {
+                for pair in case.lists[1].chunks_exact_mut(2) {
+                    if rng.one_in(2) {
+                        pair[1] = some_end(rng, pair[0], case.file.len());
+                    }
+                }
+            }
+            if rng.one_in(16) {
+                case.lists[1].pop();
+            }
         } else {
             let n = rng.below(70);
             case.file = rng.bytes(n, &[0x00, 0x00, 0x0e, 0x12, 0x1a, 0x02, 0x1b, 0x6e, 0xfa, 0x18, 0x73, 0x01]);
@@ -462,15 +476,25 @@ impl Inputs {
                 case.file.splice(at..end, payload);
             }
             case.numbers[13] = rng.below(3) as u32;
-            let (slots, starts, shares, entries) = (rng.below(6), rng.below(6), rng.below(5), rng.below(9));
-            case.lists[1] = (0..starts).map(|_| if rng.one_in(5) { 0 } else { rng.below(n + 2) as u32 }).collect();
+            let (slots, methods, shares, entries) = (rng.below(6), rng.below(6), rng.below(5), rng.below(9));
+            for _ in 0..methods {
+                let start = if rng.one_in(5) { 0 } else { rng.below(n + 2) as u32 };
+                let end = some_end(rng, start, n);
+                case.lists[1].extend([start, end]);
+            }
+            // An odd last word: one too many or, for the last method, one too few.
+            match rng.below(12) {
+                0 => case.lists[1].push(rng.below(n + 2) as u32),
+                1 => drop(case.lists[1].pop()),
+                _ => {}
+            }
             case.lists[2] = (0..shares)
-                .flat_map(|k| [rng.below(starts + 1 - starts.min(1)) as u32, rng.below(6) as u32, rng.below(k + 1) as u32])
+                .flat_map(|k| [rng.below(methods + 1 - methods.min(1)) as u32, rng.below(6) as u32, rng.below(k + 1) as u32])
                 .collect();
             if rng.one_in(8) {
                 case.lists[2].pop();
             }
-            case.lists[0] = (0..slots).map(|_| slot_word(rng, starts, shares)).collect();
+            case.lists[0] = (0..slots).map(|_| slot_word(rng, methods, shares)).collect();
             case.lists[3] = (0..entries).map(|_| rng.below(n + 40) as u32).collect();
             if rng.one_in(2) {
                 case.lists[3].sort();
@@ -529,6 +553,18 @@ impl Inputs {
         }
         case.numbers[13] = slot_word(rng, 20, n);
         case
+    }
+}
+
+/// The second word of a pair: most often somewhere after the start, now and then far off, 0, before the start or on it.
+fn some_end(rng: &mut Rng, start: u32, n: usize) -> u32 {
+    match rng.below(12) {
+        0 => 0,
+        1 => start,
+        2 => rng.below(start as usize + 1) as u32,
+        3 => u32::MAX,
+        4..=6 => start + rng.below(n + 8) as u32,
+        _ => start + 1 + rng.below(24) as u32,
     }
 }
 
@@ -660,7 +696,7 @@ fn lend(case: &mut Case, rng: &mut Rng) {
                     needed[1] = spare(rng);
                 }
             }
-            LOCATE => needed[0] = case.lists[1].len(),
+            LOCATE => needed[0] = case.lists[1].len() / 2,
             FIND => needed[6] = case.methods().size as usize,
             _ => {}
         }
@@ -681,7 +717,7 @@ fn lend(case: &mut Case, rng: &mut Rng) {
 
 /// The cases of every run, however few it makes: a file of the greatest length and one of a byte more, which every operation
 /// refuses (1); a method index at its limit, and padded numbers in each place of class data; code at a file's end; payloads among
-/// instructions; name filters around the sizes at which ours changes its tables, and above all of them.
+/// instructions; uses after the end of an array; name filters around the sizes at which ours changes its tables, and above all of them.
 pub fn always(op: u32) -> Vec<Case> {
     let mut cases: Vec<Case> = [LARGEST, LARGEST + 1].into_iter().flat_map(|n| at_length(op, n)).collect();
     match op {
@@ -690,15 +726,18 @@ pub fn always(op: u32) -> Vec<Case> {
             cases.extend([16_777_215, 16_777_216].map(greatest_method));
             cases.extend(padded_numbers(op));
             cases.extend(code_at_the_end(op));
+            cases.extend(array_ends(op));
         }
         FIND => {
             cases.extend(padded_numbers(op));
             cases.extend(code_at_the_end(op));
             cases.extend(payloads(op));
+            cases.extend(array_ends(op));
         }
         LOCATE => {
             cases.extend(payloads(op));
             cases.extend(greatest_payload());
+            cases.extend(array_ends(op));
         }
         SCAN => {
             cases.push(great_indices());
@@ -773,7 +812,7 @@ fn at_length(op: u32, n: usize) -> Vec<Case> {
         LOCATE => {
             let at = end - 2;
             case.numbers[13] = at / 16;
-            case.lists = [vec![1], vec![at / 16 * 16], vec![], vec![at]];
+            case.lists = [vec![1], vec![at / 16 * 16, end], vec![], vec![at]];
         }
         // No file, or none that the program `replay` takes.
         _ => return vec![],
@@ -792,7 +831,7 @@ fn greatest_method(index: u32) -> Case {
     case.file[76] = 1;
     case.numbers[11] = 1;
     case.numbers[9] = 16_777_217;
-    lent(&mut case, &[16_777_217, 3, 1, 0]);
+    lent(&mut case, &[2 * 16_777_217, 3, 1, 0]);
     case
 }
 
@@ -967,7 +1006,8 @@ fn other_payloads() -> Vec<Vec<u8>> {
 
 /// One method, whose array has payloads, or units that look like one, among uses of index 5, and begins at any remainder by 4. The file ends
 /// with the array; for the finder also with the array's last block. To locate are all offsets of a short array and some past its end, of a long
-/// one those near both ends: rising, so that the walks are short, and falling, so that one goes over all.
+/// one those near both ends: rising, so that the walks are short, and falling, so that one goes over all. The end word is the array's end, or so
+/// great that those past it are walked to as well.
 pub fn payloads(op: u32) -> Vec<Case> {
     let kinds = if op == FIND { &USES[..] } else { &USES[..1] };
     let between = kinds.iter().flat_map(|&(used, kind)| between_uses(used).into_iter().map(move |array| (array, kind)));
@@ -980,14 +1020,15 @@ pub fn payloads(op: u32) -> Vec<Case> {
             case.file.extend(&array);
             let (end, blocks) = (case.file.len() as u32, (case.file.len() / 16) as u32);
             if op == LOCATE {
-                let mut entries: Vec<u32> = (63..end + 20).filter(|&at| at < 120 || at + 60 > end).collect();
+                let entries: Vec<u32> = (63..end + 20).filter(|&at| at < 120 || at + 60 > end).collect();
                 case.numbers[13] = 3;
                 lent(&mut case, &[1, entries.len() as u32]);
-                case.lists = [vec![1; blocks as usize], vec![start as u32], vec![], entries.clone()];
-                cases.push(case.clone());
-                entries.reverse();
-                case.lists[3] = entries;
-                cases.push(case);
+                for end in [u32::MAX, end] {
+                    case.lists = [vec![1; blocks as usize], vec![start as u32, end], vec![], entries.clone()];
+                    cases.push(case.clone());
+                    case.lists[3].reverse();
+                    cases.push(case.clone());
+                }
                 continue;
             }
             case.file[24] = 32;
@@ -995,7 +1036,7 @@ pub fn payloads(op: u32) -> Vec<Case> {
             put(&mut case.file, start - 4, array.len() as u32 / 2);
             (case.numbers[9], case.numbers[11], case.numbers[13]) = (1, 1, kind);
             case.lists[0] = vec![5];
-            case.lent = [1, 3, blocks, 0, 64, 64, 1, 64];
+            case.lent = [2, 3, blocks, 0, 64, 64, 1, 64];
             cases.push(case.clone());
             case.file.resize(case.file.len().next_multiple_of(16), 0);
             cases.push(case);
@@ -1013,10 +1054,146 @@ fn greatest_payload() -> [Case; 2] {
         case.file.splice(..0, [0; 16]);
         case.file.resize(LARGEST, 0);
         case.numbers[13] = end / 16;
-        case.lists = [vec![1], vec![16], vec![], vec![end + 2, end, end + 2]];
+        case.lists = [vec![1], vec![16, u32::MAX], vec![], vec![end + 2, end, end + 2]];
         lent(&mut case, &[1, 3]);
         case
     })
+}
+
+/// Ends of arrays: pairs of start words made up, and arrays with uses after them.
+pub fn array_ends(op: u32) -> Vec<Case> {
+    let mut cases = if op == LOCATE { made_up_pairs() } else { uses_after_the_end(op) };
+    cases.extend(codes_found(op));
+    cases
+}
+
+/// Rising entries as they are, each twice, falling, and with both halves falling in turn, so that entries past an end stand between others.
+fn in_orders(case: Case, cases: &mut Vec<Case>) {
+    let rising = case.lists[3].clone();
+    let twice = rising.iter().flat_map(|&at| [at, at]).collect();
+    let falling: Vec<u32> = rising.iter().rev().copied().collect();
+    let (high, low) = falling.split_at(falling.len() / 2);
+    let in_turn = low.iter().zip(high).flat_map(|(&a, &b)| [a, b]).collect();
+    for entries in [rising, twice, falling, in_turn] {
+        let mut case = case.clone();
+        case.lent[1] = entries.len() as u32;
+        case.lists[3] = entries;
+        cases.push(case);
+    }
+}
+
+/// Instructions of one, two and three units from 64 to 112, and pairs of start words over them. To locate are all offsets there and some around.
+fn made_up_pairs() -> Vec<Case> {
+    let mut whole = Case::new(LOCATE);
+    whole.file = vec![0; 64];
+    while whole.file.len() < 112 {
+        whole.file.extend([0, 0, 0x1a, 0, 5, 0, 0x1b, 0, 5, 0, 0, 0, 0x0e, 0, 0x12, 0]);
+    }
+    whole.numbers[13] = 4;
+    whole.lists[3] = (62..114).collect();
+    let mut cases = Vec::new();
+    // One method: an end before the start, on it, within an instruction, between two, and past the file; 0 for either word.
+    for start in [0, 64, 65, 66] {
+        for end in (0..2).chain(62..114).chain([0x7fff_ffff, 0x8000_0000, u32::MAX]) {
+            let mut case = whole.clone();
+            (case.lists[0], case.lists[1]) = (vec![1; 3], vec![start, end]);
+            case.lent[0] = 1;
+            in_orders(case, &mut cases);
+        }
+    }
+    // Two methods and shares of both: the pair of a share is that of its first method.
+    let pairs = [[0, 0], [0, 90], [64, 0], [64, 70], [64, 73], [66, 96], [80, 90], [90, 80]];
+    let share = 1 << 31;
+    for (a, b) in pairs.iter().flat_map(|a| pairs.map(|b| (a, b))) {
+        for slots in [[1, share, 2], [share, share + 1, share], [share + 1, 1, share]] {
+            let mut case = whole.clone();
+            case.lists[..3].clone_from_slice(&[slots.to_vec(), [*a, b].concat(), vec![1, 0, 0, 0, 1, 1]]);
+            case.lent[0] = 2;
+            in_orders(case, &mut cases);
+        }
+    }
+    // Each number of start words up to three pairs, for each of the methods, and one further word too few, enough, or one more.
+    for (words, method) in (0..=6).flat_map(|words| (0..3).map(move |method| (words, method))) {
+        for further in words / 2..=words / 2 + 2 {
+            let mut case = whole.clone();
+            (case.lists[0], case.lists[1]) = (vec![0, method + 1, 0], [64, 80, 64, 96, 66, 90][..words].to_vec());
+            case.lent[..2].copy_from_slice(&[further.saturating_sub(1) as u32, 64]);
+            cases.push(case.clone());
+            // No entry needs a pair.
+            case.lists[0][1] = 0;
+            cases.push(case);
+        }
+    }
+    cases
+}
+
+/// One method, whose array is the first units, or all, of three uses of index 5: so uses stand after its end, which is between two of them or
+/// within one. The file ends with a block.
+fn uses_after_the_end(op: u32) -> Vec<Case> {
+    let mut cases = Vec::new();
+    for (code, (used, kind)) in (48..64).flat_map(|code| USES.map(|u| (code, u))) {
+        let uses = used.repeat(3);
+        for units in 1..=uses.len() / 2 {
+            let mut case = Case::new(op);
+            case.file = vec![0; code + 16];
+            case.file[24] = 32;
+            case.file[32..39].copy_from_slice(&[0, 0, 1, 0, 0, 0, code as u8]);
+            put(&mut case.file, code + 12, units as u32);
+            case.file.extend(&uses);
+            case.file.resize(case.file.len().next_multiple_of(16), 0);
+            (case.numbers[9], case.numbers[11]) = (1, 1);
+            if op == FIND {
+                (case.numbers[13], case.lists[0]) = (kind, vec![5]);
+            }
+            case.lent[..shape(op).1].fill(16);
+            cases.push(case);
+        }
+    }
+    cases
+}
+
+/// Two methods and three code items, uses of index 5 in each array and after it: every list of up to three of their codes, a class for each. So a
+/// method may have code twice, and its pair is that of the code found last; and methods may share code. To locate are all offsets of the code.
+fn codes_found(op: u32) -> Vec<Case> {
+    const ITEMS: [(u8, u32); 3] = [(120, 2), (144, 3), (172, 4)];
+    let mut file = vec![0; 120];
+    file.extend([0x1a, 0, 5, 0].repeat(26));
+    for (code, units) in ITEMS {
+        put(&mut file, code as usize + 12, units);
+    }
+    let codes: Vec<(u8, u8)> = (0..2).flat_map(|method| ITEMS.map(|(code, _)| (method, code))).collect();
+    let total = codes.len() + codes.len().pow(2) + codes.len().pow(3);
+    let mut cases = Vec::new();
+    for index in 1..=total {
+        let found = Digits(index as u64).list(&codes, 3);
+        let mut case = Case::new(CODE_TABLE);
+        case.file = file.clone();
+        for (i, &(method, code)) in found.iter().enumerate() {
+            let data = 96 + 8 * i;
+            case.file[32 * i + 24] = data as u8;
+            case.file[data..data + 8].copy_from_slice(&[0, 0, 1, 0, method, 0, code | 0x80, code >> 7]);
+        }
+        (case.numbers[9], case.numbers[11]) = (2, found.len() as u32);
+        lent(&mut case, &[4, 9, 5, 6]);
+        match op {
+            FIND => {
+                (case.op, case.numbers[13], case.lists[0]) = (FIND, 1, vec![5]);
+                case.lent[4..].copy_from_slice(&[32, 32, 2, 32]);
+            }
+            LOCATE => {
+                let (numbers, table) = document::answer(&case).expect("a code table");
+                let words = |i: usize| table[i].iter().map(|&w| w as u32).collect();
+                let mut case = Case { op, file: case.file, lists: [words(2), words(0), words(3), (116..226).collect()], ..Case::default() };
+                case.numbers[13] = numbers[0] as u32 / 16;
+                case.lent[0] = 2;
+                in_orders(case, &mut cases);
+                continue;
+            }
+            _ => {}
+        }
+        cases.push(case);
+    }
+    cases
 }
 
 /// const-string/jumbo with indices around powers of two, all of them wanted among many others, in falling order.
@@ -1198,7 +1375,7 @@ fn counted(op: u32, index: u64) -> Option<Case> {
             c.file = file;
             c.numbers[12] = 1;
             c.numbers[9] = 1 + d.take(2) as u32;
-            lent(&mut c, &[2, 6, 1, 3]);
+            lent(&mut c, &[4, 6, 1, 3]);
         }
         SCAN => {
             let kind = d.take(4);
@@ -1213,8 +1390,10 @@ fn counted(op: u32, index: u64) -> Option<Case> {
         }
         LOCATE => {
             c.file = d.list(&[0x00u8, 0x02, 0x03, 0x73], 5);
-            c.lists[0] = vec![[0u32, 1, 2, 0x8000_0000][d.take(4)]];
-            c.lists[1] = d.list(&[0u32, 1, 2], 2);
+            // Of the slot's first method, 0 or 1: no start word, one, or both.
+            let slot = [0u32, 1, 2, 0x8000_0000][d.take(4)];
+            c.lists[0] = vec![slot];
+            c.lists[1] = [&[0, 0][..if slot < 2 { 0 } else { 2 }], &d.list(&[0u32, 1, 2, 5], 2)].concat();
             c.lists[2] = vec![1, 0, 0];
             c.lists[3] = vec![d.take(6) as u32, 4];
             lent(&mut c, &[2, 2, 0, 0]);

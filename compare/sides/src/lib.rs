@@ -12,7 +12,7 @@ use case::{Case, Outcome, STRING_MAP};
 
 /// What ours must answer to a case, and by what it was found.
 pub enum Expected {
-    /// On the domain: the Rust's answer.
+    /// On the domain: the Rust's answer, without what it confirms past the ends of arrays.
     Domain(Outcome),
     /// Off it: SPEC's.
     Off(Outcome),
@@ -56,15 +56,19 @@ pub fn expected(case: &Case) -> Expected {
     if matches!(case.op, case::CODE_TABLE | case::FIND) && document.numbers[1] % 16 != 0 {
         return Expected::Off(document);
     }
+    // The Rust has no ends of arrays: it may walk on from an entry past the end, and lose one before the end that comes later in the list.
+    if case.op == case::LOCATE && !case.lists[3].is_sorted() {
+        return Expected::Off(document);
+    }
     // The Rust knows no payloads: it walks over their bytes as over instructions.
     if document::meets_payload(case) {
         return Expected::Off(document);
     }
-    match theirs::answer(case) {
+    match theirs::answer(case).map(|answer| theirs::within_ends(case, answer)) {
         Some(theirs) => {
             // For 3 and 5 of the string map the Rust answers with an empty map.
-            let empty = Outcome { refusal: 0, ..document.clone() };
-            if theirs == document || (case.op == STRING_MAP && matches!(refusal, 3 | 5) && theirs == empty) {
+            let empty = || Outcome { refusal: 0, ..document.clone() };
+            if theirs == document || (case.op == STRING_MAP && matches!(refusal, 3 | 5) && theirs == empty()) {
                 return Expected::Domain(document);
             }
             Expected::Dispute { theirs: Some(theirs), document }

@@ -1,13 +1,17 @@
 //! Makes a case that shows something smaller, as far as simple steps go.
 
 use crate::case::Case;
+use std::time::{Duration, Instant};
 
-/// A case for which `shows` still holds, after every step that keeps it was taken.
+/// A case for which `shows` still holds, after every step that keeps it was taken, or those for which there was time: a try with the longest
+/// slices takes a second.
 pub fn smaller(case: &Case, shows: impl Fn(&Case) -> bool) -> Case {
-    let mut best = case.clone();
+    const LONGEST: Duration = Duration::from_secs(20);
+    let (mut best, from) = (case.clone(), Instant::now());
     let mut tries = 0;
     let mut changed = true;
-    while changed && tries < 20_000 {
+    let over = |tries: u32| tries >= 20_000 || from.elapsed() > LONGEST;
+    while changed && !over(tries) {
         changed = false;
         for step in steps(&best) {
             tries += 1;
@@ -17,7 +21,7 @@ pub fn smaller(case: &Case, shows: impl Fn(&Case) -> bool) -> Case {
                 best = c;
                 changed = true;
             }
-            if tries >= 20_000 {
+            if over(tries) {
                 break;
             }
         }

@@ -205,10 +205,12 @@ fn instructions(rng: &mut Rng) -> Vec<u8> {
     out
 }
 
-/// A code item with these instructions, at the file's end.
+/// A code item with these instructions, at the file's end. Now and then its array has not all of them, so that some stand after it.
 fn code_item(file: &mut Vec<u8>, array: &[u8], rng: &mut Rng) {
+    let units = array.len() / 2;
+    let size = if rng.one_in(5) { 1 + rng.below(units) } else { units };
     file.extend(rng.bytes(12, &[0, 1]));
-    file.extend((array.len() as u32 / 2).to_le_bytes());
+    file.extend((size as u32).to_le_bytes());
     file.extend(array);
 }
 

@@ -197,7 +197,8 @@ fn group(case: &Case, dex: &DEX) -> Outcome {
 }
 
 /// The triples are cleared by `parse`, so that they are taken from a walk of their own. The earlier share of a share is not in the Rust's
-/// vectors: it is the one whose list stood in the start slot, which the triples tell; the words are then held against the lists.
+/// vectors: it is the one whose list stood in the start slot, which the triples tell; the words are then held against the lists. Nor are the
+/// ends of arrays: each is made of the Rust's start, before which the array's size stands.
 fn code_table(case: &Case, dex: &DEX) -> Outcome {
     let mut walk = InsnLocator::new(dex);
     walk._build_map_bymap();
@@ -223,23 +224,49 @@ fn code_table(case: &Case, dex: &DEX) -> Outcome {
     assert_eq!(before, l.insn_maps, "slots");
     assert_eq!(shared_of(&shares), l.insn_shared, "shares");
 
+    let end = |start: u32| {
+        let size = start.checked_sub(4).and_then(|at| case.file.get(at as usize..at as usize + 4));
+        size.map_or(0, |b| start.wrapping_add(u32::from_le_bytes(b.try_into().unwrap()).wrapping_mul(2)))
+    };
+    let starts: Vec<u32> = l.method_bounds.iter().flat_map(|&start| [start, end(start)]).collect();
     let triples: Vec<u64> = found.iter().flat_map(|&(a, e, m)| [a as u64, e as u64, m as u64]).collect();
     Outcome::done(
         case,
         &[l.code_item_start as usize, l.code_item_end as usize, found.len(), l.insn_maps.len(), shares.len()],
-        vec![wide(&l.method_bounds), triples, wide(&l.insn_maps), wide(&shares)],
+        vec![wide(&starts), triples, wide(&l.insn_maps), wide(&shares)],
     )
 }
 
+/// Of the pairs of start words, the Rust is given the starts.
 pub fn insn_locator<'a>(dex: &'a DEX, base: u32, slots: &[u32], starts: &[u32], shares: &[u32]) -> InsnLocator<'a> {
     let mut l = InsnLocator::new(dex);
     l.parsed = true;
     l.insn_maps = slots.to_vec();
     l.insn_bucket_base = base;
-    l.method_bounds = starts.to_vec();
-    l.max_midx = starts.len().saturating_sub(1);
+    l.method_bounds = starts.chunks_exact(2).map(|pair| pair[0]).collect();
+    l.max_midx = l.method_bounds.len().saturating_sub(1);
     l.insn_shared = shared_of(shares);
     l
+}
+
+/// An answer of locate or of the finder, without the entries that the Rust confirms at or past the end of their slot's first method: it has no
+/// ends. It also walks on from such an entry. In a nondecreasing list every later entry of that method is at or past the end too, and so is left
+/// out; of other lists this would not be the answer that SPEC has.
+pub fn within_ends(case: &Case, mut answer: Outcome) -> Outcome {
+    let words = |list: &[u64]| list.iter().map(|&w| w as u32).collect::<Vec<u32>>();
+    let (starts, shares, entries, answers) = match case.op {
+        LOCATE => (case.lists[1].clone(), case.lists[2].clone(), case.lists[3].clone(), 1),
+        FIND => (words(&answer.outs[0]), words(&answer.outs[3]), words(&answer.outs[4]), 7),
+        _ => return answer,
+    };
+    for (word, &off) in answer.outs[answers].iter_mut().zip(&entries).filter(|(word, _)| **word != 0) {
+        let slot = *word as u32;
+        let first = if slot < 1 << 31 { slot - 1 } else { shares[3 * (slot - (1 << 31)) as usize] };
+        if document::pair(&starts, first).is_some_and(|(_, end)| off >= end) {
+            *word = 0;
+        }
+    }
+    answer
 }
 
 /// A confirmed entry's answer is its slot word: the Rust's list must be the one that this word stands for.
@@ -269,7 +296,7 @@ fn list_slot(case: &Case, dex: &DEX) -> Outcome {
         s => shared[(s - (1 << 31)) as usize][0],
     } as usize;
     assert!(first < 1 << 20, "more words than the Rust is given here");
-    let mut l = insn_locator(dex, 1, &[slot], &vec![16; first + 1], &[]);
+    let mut l = insn_locator(dex, 1, &[slot], &vec![16; 2 * (first + 1)], &[]);
     l.insn_shared = shared;
     let list = l.locate(&[16]).remove(0).unwrap_or_default();
     Outcome::done(case, &[list.len()], vec![wide(&list)])

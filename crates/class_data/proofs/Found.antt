@@ -12,6 +12,7 @@ use borrow.Author.Tests.{ltb-false, leb-true}
 use Rattle.words.proofs.Shared.{cond-elim}
 use Rattle.words.specs.Padded.{zeros, padded}
 use Rattle.words.proofs.Padded.{padded-none}
+use Rattle.start_words.specs.Starts.{pairsIn, pairCount}
 use Rattle.refusal.specs.Refusals.{largestFile, tooLarge}
 use Rattle.refusal.specs.declared.Refusal.{Refusal}
 use Rattle.refusal.specs.declared.Refusal.the-variants.{FileTooLarge, LentTooShort}
@@ -77,7 +78,7 @@ codes-sound s h cs e q = subst (EachR s (h .methods .size)) (sym q) (entry-each 
 -- ---- an answer of `codes`, taken apart
 record Fit (s : List ℕ) (h : DexHeader) (nt nz : ℕ) (cs : List Code) (e : ℕ) : Type 0 where
   small : length s ≤ largestFile
-  room : h .methods .size ≤ nz
+  room : h .methods .size ≤ pairsIn nz
   walk : found cs e ≡ codesOf s h
   fits : 3 * length cs ≤ nt
 
@@ -106,7 +107,7 @@ codes-fit : (s : List ℕ) (h : DexHeader) (nt nz : ℕ) (cs : List Code) (e : �
 unfolding codesIn
 codes-fit s h nt nz cs e q =
     let a = fit-size (tooLarge (length s)) _ cs e q in
-    let b = fit-room (leb (h .methods .size) nz) nt (codesOf s h) cs e (a .1) in
+    let b = fit-room (leb (h .methods .size) (pairsIn nz)) nt (codesOf s h) cs e (a .1) in
     let d = fit-walk nt (codesOf s h) cs e (b .1) in
     record { small = ltb-false _ _ (a .0); room = leb-true _ _ (b .0); walk = d .0; fits = d .1 }
 
@@ -115,7 +116,7 @@ pub record Taken (s : List ℕ) (h : DexHeader) (n : ℕ) (before after : CodeWo
   pub next : ℕ
   pub walk : found codes next ≡ codesOf s h
   pub small : length s ≤ largestFile
-  pub room : h .methods .size ≤ length (before .starts)
+  pub room : h .methods .size ≤ pairCount (before .starts)
   pub fits : 3 * length codes ≤ length (before .triples)
   pub count : n ≡ length codes
   pub triples : after .triples ≡ padded (length (before .triples)) (triplesOf codes)

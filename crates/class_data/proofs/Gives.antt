@@ -11,9 +11,9 @@ use lib.Seq.{sets, sets-eq}
 use borrow.Author.Tests.{le-leb, lt-leb}
 use Rattle.words.specs.Padded.{zeros, padded}
 use Rattle.words.proofs.Padded.{padded-none, padded-front}
-use Rattle.start_words.specs.Starts.{methodsIn, startCount, withStart, noStarts}
+use Rattle.start_words.specs.Starts.{pairsIn, pairCount, withArray, noStarts}
 use Rattle.start_words.proofs.Starts.{length-with, with-padded, count-none, none-padded}
-use Rattle.dalvik.specs.CodeItem.{Code, start}
+use Rattle.dalvik.specs.CodeItem.{Code, start, stop}
 use Rattle.refusal.specs.Refusals.{tooLarge}
 use Rattle.refusal.specs.declared.Refusal.{Refusal}
 use Rattle.refusal.specs.declared.Refusal.the-variants.{FileTooLarge, LentTooShort}
@@ -38,15 +38,16 @@ triples-padded n cs q =
     let h : 0 + length (triplesOf cs) ≤ length (zeros n) = omega (arith, length-triples cs, length-replicate {A = ℕ} n 0) in
     sets-eq (triplesOf cs) (zeros n) 0 h ∙ padded-front n (0 + length (triplesOf cs)) (triplesOf cs) (sym l)
 
-starts-padded : (s : List ℕ) (m n : ℕ) (ws : List ℕ) (cs : List Code) → startCount ws ≡ m → Each (CodeIn s m) cs
+starts-padded : (s : List ℕ) (m n : ℕ) (ws : List ℕ) (cs : List Code) → pairCount ws ≡ m → Each (CodeIn s m) cs
     → startsFrom (padded n ws) cs ≡ padded n (startsFrom ws cs)
 starts-padded s m n ws [] e a = refl
 starts-padded s m n ws (c ∷ cs) e a =
-    let q : c .method < startCount ws = omega (arith, a .0 .index) in
-    ap (λ (l : List ℕ). startsFrom l cs) (with-padded ws (c .method) (start c) n q)
-    ∙ starts-padded s m n (withStart ws (c .method) (start c)) cs (ap methodsIn (length-with ws (c .method) (start c)) ∙ e) (a .1)
+    let q : c .method < pairCount ws = omega (arith, a .0 .index) in
+    ap (λ (l : List ℕ). startsFrom l cs) (with-padded ws (c .method) (start c) (stop c) n q)
+    ∙ starts-padded s m n (withArray ws (c .method) (start c) (stop c)) cs
+    (ap pairsIn (length-with ws (c .method) (start c) (stop c)) ∙ e) (a .1)
 
-starts-zeros : (s : List ℕ) (m n : ℕ) (cs : List Code) → m ≤ methodsIn n → Each (CodeIn s m) cs → startsFrom (zeros n) cs ≡ padded n (startsOf m cs)
+starts-zeros : (s : List ℕ) (m n : ℕ) (cs : List Code) → m ≤ pairsIn n → Each (CodeIn s m) cs → startsFrom (zeros n) cs ≡ padded n (startsOf m cs)
 unfolding startsOf
 starts-zeros s m n cs q a =
     ap (λ (l : List ℕ). startsFrom l cs) (sym (none-padded n m q)) ∙ starts-padded s m n (noStarts m) cs (count-none m) a
@@ -63,11 +64,11 @@ module _ (s : List ℕ) (h : DexHeader) (lent : CodeWords) where
   codes-large a = rw a
 
   module _ (a : tooLarge (length s) ≡ false) where
-    pub codes-short : length (lent .starts) < h .methods .size → refused LentTooShort ≡ codesFor s h lent
+    pub codes-short : pairCount (lent .starts) < h .methods .size → refused LentTooShort ≡ codesFor s h lent
     unfolding codesIn
     codes-short b = rw (a, lt-leb _ _ b)
 
-    module _ (b : h .methods .size ≤ length (lent .starts)) where
+    module _ (b : h .methods .size ≤ pairCount (lent .starts)) where
       pub codes-no : {r : Refusal} (x : Kept) → refusal r ≡ stored x (codesOf s h) → refused r ≡ codesFor s h lent
       unfolding codesIn
       codes-no {r} x e = rw (a, le-leb _ _ b, ← stored-refused x (codesOf s h) r e)

@@ -7,7 +7,7 @@ use mathlib.Core.Path.{_≡_, ap, subst, _∙_}
 use mathlib.Core.List.{List, [], _∷_}
 use lib.ListN.{set}
 use lib.Seq.{sets}
-use Rattle.start_words.specs.Starts.{withStart}
+use Rattle.start_words.specs.Starts.{withArray}
 use Rattle.dalvik.specs.CodeItem.{Code}
 use Rattle.refusal.specs.Refusals.{largestFile}
 use Rattle.refusal.specs.declared.Refusal.{Refusal}
@@ -41,7 +41,7 @@ put-three i x y z ts a b d =
 
 pub store-all : (x : Kept) (m c n : ℕ) (after : CodeWords)
     → after .triples ≡ sets (x .words .triples) (3 * x .count) ((c + 16) / 16 ∷ (c + 16 + 2 * n - 1) / 16 ∷ m ∷ [])
-    → after .starts ≡ withStart (x .words .starts) m (c + 16) → after ≡ withCode x m c n
+    → after .starts ≡ withArray (x .words .starts) m (c + 16) (c + 16 + 2 * n) → after ≡ withCode x m c n
 unfolding triplesOf
 store-all x m c n after a b = λ j. codeWords (a j) (b j)
 

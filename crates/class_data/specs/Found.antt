@@ -8,7 +8,7 @@ use mathlib.Core.Bool.{cond}
 use lib.ListN.{length}
 use lib.Dec.{leb}
 use Rattle.words.specs.Padded.{padded}
-use Rattle.start_words.specs.Starts.{methodsIn}
+use Rattle.start_words.specs.Starts.{pairsIn}
 use Rattle.refusal.specs.Refusals.{tooLarge}
 use Rattle.refusal.specs.declared.Refusal.the-variants.{FileTooLarge, LentTooShort}
 use Rattle.refusal.specs.declared.Answer.{Answer}
@@ -28,7 +28,7 @@ fitting room (found cs e) = cond (leb (3 * length cs) room) (found cs e) (refuse
 unfoldable pub codesIn : List ℕ → DexHeader → ℕ → ℕ → Walk
 codesIn s h triples starts =
     cond (tooLarge (length s)) (refused FileTooLarge)
-    (cond (leb (h .methods .size) (methodsIn starts)) (fitting triples (codesOf s h)) (refused LentTooShort))
+    (cond (leb (h .methods .size) (pairsIn starts)) (fitting triples (codesOf s h)) (refused LentTooShort))
 
 -- the same by the lent slices
 abbrev pub codesFor : List ℕ → DexHeader → CodeWords → Walk

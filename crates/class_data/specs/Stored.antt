@@ -1,8 +1,8 @@
--- What the walk leaves in lent words: three words for each code found, and a start word for each method.
+-- What the walk leaves in lent words: three words for each code found, and the start words of each method.
 -- Assumes nothing.
 use Prim.Native.Nat.{ℕ, _-_, _/_}
 use mathlib.Core.List.{List, [], _∷_}
-use Rattle.start_words.specs.Starts.{withStart, noStarts}
+use Rattle.start_words.specs.Starts.{withArray, noStarts}
 use Rattle.dalvik.specs.CodeItem.{Code, start, stop}
 
 -- the two lent slices
@@ -25,11 +25,11 @@ unfoldable pub triplesOf : List Code → List ℕ
 triplesOf [] = []
 triplesOf (c ∷ cs) = firstBucket c ∷ lastBucket c ∷ c .method ∷ triplesOf cs
 
--- the start word of a method is that of its code found last
+-- the start words of a method are those of its code found last
 abbrev pub startsFrom : List ℕ → List Code → List ℕ
 startsFrom ws [] = ws
-startsFrom ws (c ∷ cs) = startsFrom (withStart ws (c .method) (start c)) cs
+startsFrom ws (c ∷ cs) = startsFrom (withArray ws (c .method) (start c) (stop c)) cs
 
--- 0 for a method without code; m counts the method ids
+-- 0 and 0 for a method without code; m counts the method ids
 unfoldable pub startsOf : ℕ → List Code → List ℕ
 startsOf m cs = startsFrom (noStarts m) cs

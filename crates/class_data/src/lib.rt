@@ -194,7 +194,7 @@ fn walk_fitting(buf: &[u8], header: DexHeader, triples: &mut [u32], starts: &mut
     }
 }
 
-// The codes of a file: three words for each in the order found (first bucket, last bucket, method), and each method's start word. The
+// The codes of a file: three words for each in the order found (first bucket, last bucket, method), and each method's start words. The
 // answer counts the codes; a refusal leaves cleared words.
 pub fn codes(buf: &[u8], header: DexHeader, triples: &mut [u32], starts: &mut [u32]) -> Answer
     ensures gives { λ r.

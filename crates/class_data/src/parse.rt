@@ -1,4 +1,4 @@
-// One class data item walked (insn_locator.rs: `_class_data_parse`): each method with code leaves three words and its start word.
+// One class data item walked (insn_locator.rs: `_class_data_parse`): each method with code leaves three words and its start words.
 ghost use mathlib.Core.Path.{_≡_};
 ghost use Prim.Native.Nat.{_+_, _<_, _^_};
 ghost use mathlib.Core.List.{[], _∷_};
@@ -21,7 +21,7 @@ fn put_three(triples: &mut [u32], at: usize, first: u32, last: u32, method: u32)
     words::put(triples, at + 2, method);
 }
 
-// Keeps code number k: its three words, where they fit, and the method's start word.
+// Keeps code number k: its three words, where they fit, and the method's start words.
 fn store(triples: &mut [u32], starts: &mut [u32], k: usize, idx: u32, code: u32, units: u32)
     requires { ⌜ StorePre k code units ⌝ }
     ensures { λ _.
@@ -30,14 +30,9 @@ fn store(triples: &mut [u32], starts: &mut [u32], k: usize, idx: u32, code: u32,
         ⌜ after ≡ withCode (kept k before) idx code units ⌝ }
 {
     let first = code + 16;
-    put_three(
-        triples,
-        3 * k,
-        first / 16,
-        (first + 2 * units - 1) / 16,
-        idx,
-    );
-    start_words::set_start(starts, idx as usize, first);
+    let end = first + 2 * units;
+    put_three(triples, 3 * k, first / 16, (end - 1) / 16, idx);
+    start_words::set_array(starts, idx as usize, first, end);
 }
 
 // Where a walk over methods stands: the next offset, the index before it, and how many codes were found.

@@ -15,7 +15,7 @@ use lib.Dec.{leb}
 use lib.ListN.{length}
 use Rattle.words.proofs.Shared.{cond-elim}
 use Rattle.refusal.specs.Refusals.{refusalNumber, tooLarge}
-use Rattle.start_words.specs.Starts.{methodsIn}
+use Rattle.start_words.specs.Starts.{pairsIn}
 use Rattle.tinydex.specs.declared.DexHeader.{DexHeader}
 use Rattle.dalvik.specs.CodeItem.{Code}
 use Rattle.class_data.specs.Walk.{Walk}
@@ -65,7 +65,7 @@ inside : (s : List ℕ) (h : DexHeader) (room : Room) → Inside (length s) (bui
 unfolding buildOut
 inside s h room =
     cond-elim (Inside (length s)) (tooLarge (length s)) (noBuild 1) _ (λ _. refuses (length s) 1 (λ q. omega arith))
-    (λ _. cond-elim (Inside (length s)) (leb (h .methods .size) (methodsIn (room .starts)))
+    (λ _. cond-elim (Inside (length s)) (leb (h .methods .size) (pairsIn (room .starts)))
     (builtFrom (length s) (h .methods .size) room (codesOf s h)) (noBuild 4)
     (λ _. from-inside s h (h .methods .size) room (codesOf s h) refl (codes-reason s h)) (λ _. refuses (length s) 4 (λ q. omega arith)))
 

@@ -17,6 +17,7 @@ use Rattle.words.specs.Padded.{padded}
 use Rattle.refusal.specs.Refusals.{refusalNumber, largestFile, tooLarge}
 use Rattle.refusal.specs.declared.Refusal.{Refusal}
 use Rattle.refusal.specs.declared.Refusal.the-variants.{FileTooLarge, LentTooShort}
+use Rattle.start_words.specs.Starts.{pairsIn}
 use Rattle.tinydex.specs.declared.DexHeader.{DexHeader}
 use Rattle.dalvik.specs.CodeItem.{Code}
 use Rattle.class_data.specs.Walk.{Walk}
@@ -66,12 +67,12 @@ module _ (s : List ℕ) (h : DexHeader) (room : Room) (r : Refusal) where
   unfolding codesIn buildOut
   lost =
       both r (tooLarge (length s)) _ _ _ _ (itself r FileTooLarge)
-      (both r (leb (h .methods .size) (room .starts)) _ _ _ _ (fits-not (h .methods .size) (codesOf s h)) (itself r LentTooShort))
+      (both r (leb (h .methods .size) (pairsIn (room .starts))) _ _ _ _ (fits-not (h .methods .size) (codesOf s h)) (itself r LentTooShort))
 
-pub gained : (s : List ℕ) (h : DexHeader) (room : Room) (w : Walk) → w ≡ codesOf s h → length s ≤ largestFile → h .methods .size ≤ room .starts
+pub gained : (s : List ℕ) (h : DexHeader) (room : Room) (w : Walk) → w ≡ codesOf s h → length s ≤ largestFile → h .methods .size ≤ pairsIn (room .starts)
     → buildOut s h room ≡ builtFrom (length s) (h .methods .size) room w
 unfolding buildOut
-gained s h room w e p q = rw (le-ltb largestFile (length s) p, le-leb (h .methods .size) (room .starts) q, e)
+gained s h room w e p q = rw (le-ltb largestFile (length s) p, le-leb (h .methods .size) (pairsIn (room .starts)) q, e)
 
 -- what holds of each code holds of code i
 each-at : (P : Code → Type 0) (cs : List Code) → Each P cs → (i : ℕ) → i < length cs → P (getD cs i noCode)

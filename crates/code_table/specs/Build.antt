@@ -7,7 +7,7 @@ use mathlib.Core.Bool.{cond, _&&_}
 use lib.ListN.{length}
 use lib.Dec.{leb}
 use Rattle.refusal.specs.Refusals.{refusalNumber, tooLarge}
-use Rattle.start_words.specs.Starts.{methodsIn}
+use Rattle.start_words.specs.Starts.{pairsIn}
 use Rattle.tinydex.specs.declared.DexHeader.{DexHeader}
 use Rattle.dalvik.specs.CodeItem.{Code}
 use Rattle.class_data.specs.Walk.{Walk}
@@ -66,4 +66,4 @@ builtFrom len count room (found cs e) =
 unfoldable pub buildOut : List ℕ → DexHeader → Room → Build
 buildOut s h room =
     cond (tooLarge (length s)) (noBuild 1)
-    (cond (leb (h .methods .size) (methodsIn (room .starts))) (builtFrom (length s) (h .methods .size) room (codesOf s h)) (noBuild 4))
+    (cond (leb (h .methods .size) (pairsIn (room .starts))) (builtFrom (length s) (h .methods .size) room (codesOf s h)) (noBuild 4))

@@ -1,14 +1,14 @@
 -- The buckets of an array are the blocks that hold a byte of it. Those of different code items are disjoint, since 16 header bytes stand
 -- between two arrays.
 -- Assumes nothing.
-use Prim.Native.Nat.{ℕ, _*_, _≤_, _<_}
+use Prim.Native.Nat.{ℕ, _≤_, _<_}
 use native.Mathlib.Omega.{arith}
 use mathlib.Core.Path.{_≡_, refl}
 use mathlib.Core.Logic.{_⊎_, inl, inr, ⊎-elim}
 use mathlib.Core.List.{List, [], _∷_, List·Memᴰ, List·Memᴰ·head, List·Memᴰ·tail, List·Memᴰ·not-nil, List·Memᴰ·cases-cons}
-use Rattle.dalvik.specs.CodeItem.{Code, start, stop}
+use Rattle.dalvik.specs.CodeItem.{Code, stop}
 use Rattle.class_data.specs.Stored.{firstBucket, lastBucket}
-use Rattle.completeness.specs.Completeness.{CoincideOrApart, BlockOf}
+use Rattle.completeness.specs.Completeness.{CoincideOrApart}
 use Rattle.completeness.specs.Completeness.CoincideOrApart.{coincide, ends-before, begins-after}
 use Rattle.completeness.proofs.Tests.{lt-or-le}
 
@@ -16,13 +16,6 @@ use Rattle.completeness.proofs.Tests.{lt-or-le}
 pub record InBuckets (c : Code) (b : ℕ) : Type 0 where
   pub from-first : firstBucket c ≤ b
   pub to-last : b ≤ lastBucket c
-
-pub block-of-array : (c : Code) (b : ℕ) → 0 < c .units → InBuckets c b → BlockOf c b
-block-of-array c b u i =
-    ⊎-elim
-    (λ (h : start c < b * 16). record { at = b * 16; from-start = omega arith; before-stop = omega (arith, i .to-last); holds = omega arith })
-    (λ (h : b * 16 ≤ start c). record { at = start c; from-start = omega arith; before-stop = omega arith; holds = omega (arith, i .from-first) })
-    (lt-or-le (start c) (b * 16))
 
 -- ---- of two arrays
 apart-buckets : (c d : Code) (b : ℕ) → stop c ≤ d .off → InBuckets c b → InBuckets d b → ⊥

@@ -2,18 +2,15 @@
 -- for it is what SPEC prints.
 -- Assumes nothing.
 use Prim.Native.Nat.{ℕ}
-use native.Mathlib.Omega.{arith}
 use mathlib.Core.Path.{refl}
 use mathlib.Core.List.{List, [], _∷_, _++_}
-use lib.Dec.{lit<, lit≤}
+use lib.Dec.{lit<}
 use lib.ListN.{length, replicate}
 use Rattle.tinydex.specs.declared.DexHeader.{DexHeader}
-use Rattle.dalvik.specs.Numbers.{le16, le32, Uleb128s}
+use Rattle.dalvik.specs.Numbers.{le16, le32}
 use Rattle.dalvik.specs.CodeItem.{Code}
 use Rattle.dalvik.specs.Formats.{formats, formatOf, lengthOf}
-use Rattle.dalvik.specs.ClassData.{EncodedMethods, Defined, CodesOf}
-use Rattle.dalvik.specs.ClassData.Defined.{some-data}
-use Rattle.dalvik.specs.ClassData.CodesOf.{without-map}
+use Rattle.dalvik.specs.ClassData.{CodesOf}
 use Rattle.dalvik.specs.Instructions.{Kind}
 use Rattle.dalvik.specs.Instructions.Kind.{strings}
 use Rattle.dalvik.specs.Instructions.Reached.{here}
@@ -21,7 +18,7 @@ use Rattle.completeness.specs.Completeness.{ArrayOf, Supposed}
 use Rattle.completeness.proofs.Outcomes.{Lent, Suffices, ranOf, Finds}
 use Rattle.completeness.proofs.Demand.{over-outcomes}
 use Rattle.completeness.proofs.Enough.{lentOf, enough-suffices}
-use Rattle.completeness.proofs.WorkedFile.{coded, class-data, next, codeOf, codesFrom, supposed, least, least-enough, headerOf, Worked}
+use Rattle.completeness.proofs.WorkedFile.{one-method, next, codeOf, codesFrom, supposed, least, least-enough, headerOf, Worked}
 
 unfoldable pub file : List ℕ
 file =
@@ -38,10 +35,7 @@ codes = codesFrom 48 4 1 0
 found-here : CodesOf file 0 0 1 codes
 unfolding file codes le32 le16
 found-here =
-    without-map refl
-    (some-data {i = 0} {cs = codes} {ds = []} (lit≤ tt) (λ q. omega arith)
-    (class-data file 32 (refl, refl, refl, refl) Uleb128s.no-more
-    (coded file 36 (refl, refl, refl, refl, refl) EncodedMethods.no-more) EncodedMethods.no-more) Defined.no-more)
+    one-method file 48 4 (refl, refl) (refl, refl, refl, refl, refl, refl, refl) (refl, refl, refl, refl, refl) (refl, refl, refl)
 
 -- const-string, return-void, nop
 array : (m : ℕ) → ArrayOf file (codeOf 48 4 m)
@@ -72,7 +66,7 @@ unfoldable pub worked : Worked
 worked = record {
   file = file;
   header = header;
-  built = record { number = 0; from = 64; to = 80; starts = 64 ∷ []; triples = 4 ∷ 4 ∷ 0 ∷ []; slots = 1 ∷ []; shares = [] };
+  built = record { number = 0; from = 64; to = 80; starts = 64 ∷ 72 ∷ []; triples = 4 ∷ 4 ∷ 0 ∷ []; slots = 1 ∷ []; shares = [] };
   hits = record { off = 64; mark = 5 } ∷ [];
   answers = 1 ∷ [];
   slot = 1;

@@ -1,17 +1,17 @@
--- Which entries are confirmed: every instruction that names a wanted index, since the walk from its array's start lands on it; and an entry
--- on which such a walk lands is one of these, or lies at or after the array's end, since before it the walk meets only the array's instructions
--- and payloads.
+-- Which entries are confirmed: every instruction that names a wanted index, since the walk from its array's start lands on it before the
+-- array's end; and no other, since up to there the walk meets only the array's instructions and payloads.
 -- Assumes nothing.
-use Prim.Native.Nat.{ℕ, _/_, _≤_, _<_}
+use Prim.Native.Nat.{ℕ, _/_, _<_}
 use native.Mathlib.Omega.{arith}
 use mathlib.Core.Path.{_≡_, sym, _∙_}
-use mathlib.Core.Logic.{_⊎_, inl, inr, ⊎-elim}
-use mathlib.Core.Bool.{true, false, cond}
+use mathlib.Core.Logic.{⊎-elim}
+use mathlib.Core.Bool.{true, false, cond, _&&_}
 use mathlib.Core.List.{List, List·Memᴰ}
 use mathlib.Core.Option.{some}
+use lib.Dec.{ltb}
 use lib.ListN.{length, getD, length-map}
-use borrow.Author.Tests.{le-leb}
-use Rattle.words.proofs.Shared.{case}
+use borrow.Author.Tests.{le-leb, lt-ltb, ltb-true}
+use Rattle.words.proofs.Shared.{case, and-left, and-right}
 use Rattle.refusal.specs.Outcomes.{success}
 use Rattle.dalvik.specs.CodeItem.{Code, start, stop}
 use Rattle.dalvik.specs.Instructions.{Kind}
@@ -21,7 +21,6 @@ use Rattle.insn_locator.specs.Locate.{Tables}
 use Rattle.slot_listing.specs.Listing.{listed, listOut}
 use Rattle.completeness.specs.Completeness.{Supposed, sharing, arranged, Lists, NamesWanted}
 use Rattle.completeness.proofs.Outcomes.{entriesOf, Confirmed}
-use Rattle.completeness.proofs.Tests.{lt-or-le}
 use Rattle.completeness.proofs.Members.{place-of, length-arranged}
 use Rattle.insn_locator.proofs.Published.{payload-low}
 use Rattle.insn_locator.proofs.Walks.{Steps, lands-to, to-lands}
@@ -65,66 +64,73 @@ module _ {s : List ℕ} {mapoff classesOff classes methods : ℕ} {codes : List 
           entry = record {
             in-list = h .1;
             entry = h .2;
-            answer = answer-at P kind wanted i j k c m (h .0) p x (h .1) (h .2) b ∙ rw (to-lands (passes P c m p (N .units) (N .instruction)));
+            answer = answer-at P kind wanted i j k c m (h .0) p x (h .1) (h .2) b
+                ∙ rw (
+                  lt-ltb p (stop c) (omega (arith, N .instruction .fits, N .instruction .there .some-size)),
+                  to-lands (passes P c m p (N .units) (N .instruction)),
+                );
             confirmed = owner P i j k c m p b .not-free;
           };
         }
 
-    -- a confirmed entry in a bucket of an array: its walk lands there
-    walked-to : (d : Code) → List·Memᴰ d codes → (n o x v : ℕ) → Confirmed hits words n o x v → InBuckets d (o / 16)
-        → Steps s (start d) o × (v ≡ slotOf T o)
-    walked-to d m n o x v C b = ⊎-elim yes no (case (lands s (start d) o))
+    -- a confirmed entry in a bucket of an array: its walk lands there, before the array's end
+    record Walked (d : Code) (o v : ℕ) : Type 0 where
+      before-end : o < stop d
+      walk : Steps s (start d) o
+      its : v ≡ slotOf T o
+
+    walked-to : (d : Code) → List·Memᴰ d codes → (n o x v : ℕ) → Confirmed hits words n o x v → InBuckets d (o / 16) → Walked d o v
+    walked-to d m n o x v C b = ⊎-elim yes no (case (ltb o (stop d) && lands s (start d) o))
       where
-        a : v ≡ cond (lands s (start d) o) (slotOf T o) 0
+        a : v ≡ cond (ltb o (stop d) && lands s (start d) o) (slotOf T o) 0
         a = sym (C .answer) ∙ answer-at P kind wanted i j k d m n o x (C .in-list) (C .entry) b
 
-        yes : lands s (start d) o ≡ true → Steps s (start d) o × (v ≡ slotOf T o)
-        yes q = (lands-to s (start d) o q, rw q at a)
+        yes : (ltb o (stop d) && lands s (start d) o) ≡ true → Walked d o v
+        yes q = record {
+          before-end = ltb-true o (stop d) (and-left (ltb o (stop d)) (lands s (start d) o) q);
+          walk = lands-to s (start d) o (and-right (ltb o (stop d)) (lands s (start d) o) q);
+          its = rw q at a;
+        }
 
-        no : lands s (start d) o ≡ false → Steps s (start d) o × (v ≡ slotOf T o)
+        no : (ltb o (stop d) && lands s (start d) o) ≡ false → Walked d o v
         no q = absurd (C .confirmed (rw q at a))
 
-    -- before the array's end it names a wanted index: no payload begins with an opcode of the kind
+    -- so it names a wanted index: no payload begins with an opcode of the kind
     names-by : (d : Code) (o x : ℕ) → Tells s kind wanted o x → Standing s (stop d) (start d) o → NamesWanted s d kind wanted o x
     names-by d o x t (payload l) = absurd (t .opcode (payload-low s (P .bytes) o l))
     names-by d o x t (instruction {n} r i f) =
         record { units = n; instruction = record { reached = r; there = i; fits = f }; names = t .names; is-wanted = t .is-wanted }
 
-    before-end : (d : Code) → List·Memᴰ d codes → (n o x v : ℕ) → Confirmed hits words n o x v → InBuckets d (o / 16) → o < stop d
-        → NamesWanted s d kind wanted o x
-    before-end d m n o x v C b lt =
-        names-by d o x (entry-tells P kind wanted n o x (C .in-list) (C .entry))
-        (lands-within (P .bytes) (P .each d m .inside) (P .each d m .array .whole) (walked-to d m n o x v C b .0) lt)
-
-    pub within : (d : Code) → List·Memᴰ d codes → (n o x v : ℕ) → Confirmed hits words n o x v → start d ≤ o → o < stop d
-        → NamesWanted s d kind wanted o x
-    within d m n o x v C from to = before-end d m n o x v C (record { from-first = omega arith; to-last = omega arith }) to
-
-    -- a confirmed entry lies in a bucket of an array, and its answer is the slot of that bucket
-    pub record Landed (o v : ℕ) : Type 0 where
+    -- a confirmed entry lies in a bucket of an array, names a wanted index there, and its answer is the slot of that bucket
+    pub record Landed (o x v : ℕ) : Type 0 where
       pub d : Code
       pub found : List·Memᴰ d codes
       pub bucket : InBuckets d (o / 16)
+      pub names : NamesWanted s d kind wanted o x
       pub its : v ≡ slotOf T o
 
-    pub landed : (n o x v : ℕ) → Confirmed hits words n o x v → Landed o v
+    pub landed : (n o x v : ℕ) → Confirmed hits words n o x v → Landed o x v
     landed n o x v C = ⊎-elim owned unowned (owner-of codes (o / 16))
       where
-        owned : (d : Code) × List·Memᴰ d codes × InBuckets d (o / 16) → Landed o v
-        owned r = record { d = r .0; found = r .1; bucket = r .2; its = walked-to (r .0) (r .1) n o x v C (r .2) .1 }
+        owned : (d : Code) × List·Memᴰ d codes × InBuckets d (o / 16) → Landed o x v
+        owned r =
+            let d = r .0 in
+            let m = r .1 in
+            let w : Walked d o v = walked-to d m n o x v C (r .2) in
+            record {
+              d = d;
+              found = m;
+              bucket = r .2;
+              names =
+                  names-by d o x (entry-tells P kind wanted n o x (C .in-list) (C .entry))
+                  (lands-within (P .bytes) (P .each d m .inside) (P .each d m .array .whole) (w .walk) (w .before-end));
+              its = w .its;
+            }
 
-        unowned : ((d : Code) → List·Memᴰ d codes → InBuckets d (o / 16) → ⊥) → Landed o v
+        unowned : ((d : Code) → List·Memᴰ d codes → InBuckets d (o / 16) → ⊥) → Landed o x v
         unowned f =
             absurd (C .confirmed (sym (C .answer)
             ∙ no-answer s (T .starts) (T .shares) o (slotOf T o)
             (getD words n 0) (slot-free P i j k o f)
             (rw (off-at hits n o x (C .entry)) at
             (answers P kind wanted i j k .each n (omega (arith, C .in-list, length-map hits (λ (z : Hit). z .off)))))))
-
-    -- and there it names a wanted index, or lies at or after the array's end
-    pub which : (n o x v : ℕ) → Confirmed hits words n o x v → (l : Landed o v) → NamesWanted s (l .d) kind wanted o x ⊎ (stop (l .d) ≤ o)
-    which n o x v C l =
-        ⊎-elim
-        (λ (h : o < stop (l .d)). inl (before-end (l .d) (l .found) n o x v C (l .bucket) h))
-        (λ (h : stop (l .d) ≤ o). inr h)
-        (lt-or-le o (stop (l .d)))

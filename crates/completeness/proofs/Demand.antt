@@ -15,6 +15,7 @@ use Rattle.tinydex.specs.declared.DexHeader.{DexHeader}
 use Rattle.dalvik.specs.CodeItem.{Code}
 use Rattle.dalvik.specs.Instructions.{Kind}
 use Rattle.dalvik.specs.Instructions.Kind.{strings, types, fields, methods}
+use Rattle.start_words.specs.Starts.{pairsIn, pairCount}
 use Rattle.class_data.specs.Stored.{startsOf}
 use Rattle.code_table.specs.Slots.{baseOf, topOf, tableOf}
 use Rattle.code_table.specs.RegionEnd.{regionEnd}
@@ -23,11 +24,9 @@ use Rattle.code_table.specs.Build.{Build, mostShares, wholeBuild, buildOut}
 use Rattle.kinds.specs.Kinds.{kindNumber, kindOf}
 use Rattle.code_item_scan.specs.Scan.{Hit, offs, Scan, scanOut}
 use Rattle.insn_locator.specs.Locate.{Tables, locateAll, locateOut}
-use Rattle.completeness.specs.Completeness.{methodLimit, Supposed, Lists, Lies}
+use Rattle.completeness.specs.Completeness.{methodLimit, Supposed, Lists, Use}
 use Rattle.completeness.proofs.Outcomes.{Lent, passedOn, builtOf, scannedOf, locatedOf, ranOf, entriesOf}
 use Rattle.completeness.proofs.Outcomes.{HoldsTable, Suffices, Confirmed, Finds, OverOutcomes}
-use Rattle.completeness.proofs.Buckets.{block-of-array}
-use Rattle.completeness.proofs.Slots.{some-units}
 use Rattle.completeness.proofs.Starts.{startsOf-length}
 use Rattle.completeness.proofs.Rises.{rising-once}
 use Rattle.completeness.proofs.Found.{codes-found}
@@ -35,7 +34,7 @@ use Rattle.completeness.proofs.Few.{codes-few, shares-few}
 use Rattle.completeness.proofs.Walks.{tested, all-inside, in-buckets}
 use Rattle.completeness.proofs.Owners.{tablesFor, slotOf, Owner, owner}
 use Rattle.completeness.proofs.Entries.{entries-rise, answers}
-use Rattle.completeness.proofs.Confirmed.{lists-methods, Entered, entered, within, Landed, landed, which}
+use Rattle.completeness.proofs.Confirmed.{lists-methods, Entered, entered, Landed, landed}
 
 pub kind-read : (kind : Kind) → kindOf (kindNumber kind) ≡ some kind
 unfolding kindOf
@@ -80,7 +79,7 @@ module _ (s : List ℕ) (h : DexHeader) (codes : List Code) (P : Supposed s (h .
   build-is R =
       rw (
         le-ltb largestFile (length s) (P .small),
-        le-leb (h .methods .size) (L .build .starts) (R .starts),
+        le-leb (h .methods .size) (pairsIn (L .build .starts)) (omega (arith, R .starts)),
         codes-found h (P .small) (P .found) (tested P) .1,
         le-leb (3 * length codes) (L .build .triples) (R .triples),
         le-leb (topOf codes - baseOf codes) (L .build .slots) (R .slots),
@@ -103,21 +102,21 @@ module _ (s : List ℕ) (h : DexHeader) (codes : List Code) (P : Supposed s (h .
   pub passed-on : passedOn L B ≡ T
   passed-on = let z : baseOf codes * 16 / 16 ≡ baseOf codes = omega arith in rw z
 
-  pub starts-length : h .methods .size ≤ L .starts → length (T .starts) ≡ L .starts
+  pub starts-length : 2 * h .methods .size ≤ L .starts → length (T .starts) ≡ L .starts
   starts-length p = length-padded j (startsOf (h .methods .size) codes) (omega (arith, startsOf-length (h .methods .size) codes))
 
   all-located : locateAll s T (offs hits) ≡ some A
   unfolding locateAll A
   all-located = answers P kind wanted i j k .gives
 
-  pub locate-is : length hits ≤ L .answers → h .methods .size ≤ L .starts → L .starts ≤ L .further → locatedOf s L B S ≡ success A
+  pub locate-is : length hits ≤ L .answers → 2 * h .methods .size ≤ L .starts → pairsIn (L .starts) ≤ L .further → locatedOf s L B S ≡ success A
   unfolding locateOut
   locate-is a p f =
       rw (
         passed-on,
         le-ltb largestFile (length s) (P .small),
         le-leb (length (offs hits)) (L .answers) (omega (arith, length-map hits (λ (z : Hit). z .off))),
-        le-leb (length (T .starts)) (L .further) (omega (arith, starts-length p)),
+        le-leb (pairCount (T .starts)) (L .further) (omega (arith, starts-length p)),
         all-located,
       )
 
@@ -125,16 +124,15 @@ module _ (s : List ℕ) (h : DexHeader) (codes : List Code) (P : Supposed s (h .
   lists-at : (c : Code) → List·Memᴰ c codes → (t v : ℕ) → Owner T codes c t → v ≡ slotOf T t → Lists codes c (T .shares) v
   lists-at c m t v o e = rw e (lists-methods P c (T .shares) (slotOf T t) (o .lists))
 
-  lies : (n o x v : ℕ) → Confirmed hits A n o x v → Lies s codes kind wanted (T .shares) (record { off = o; index = x; slot = v })
+  a-use : (n o x v : ℕ) → Confirmed hits A n o x v → Use s codes kind wanted (T .shares) (record { off = o; index = x; slot = v })
   unfolding A
-  lies n o x v C =
-      let l : Landed P kind wanted i j k o v = landed P kind wanted i j k n o x v C in
+  a-use n o x v C =
+      let l : Landed P kind wanted i j k o x v = landed P kind wanted i j k n o x v C in
       record {
         c = l .d;
         found = l .found;
-        block = block-of-array (l .d) (o / 16) (some-units P (l .d) (l .found)) (l .bucket);
+        names = l .names;
         lists = lists-at (l .d) (l .found) o v (owner P i j k (l .d) (l .found) o (l .bucket)) (l .its);
-        which = which P kind wanted i j k n o x v C l;
       }
 
   pub holds : Finds s codes kind wanted (record { build = B; scan = S; located = success A; shares = T .shares })
@@ -144,7 +142,7 @@ module _ (s : List ℕ) (h : DexHeader) (codes : List Code) (P : Supposed s (h .
     scan-succeeds = refl;
     locate-succeeds = refl;
     answered = answers P kind wanted i j k .sized ∙ length-map hits (λ (z : Hit). z .off);
-    complete = λ c m p x N.
+    none-missing = λ c m p x N.
         let e : Entered P kind wanted i j k p x = entered P kind wanted i j k c m p x N in
         record {
           k = e .n;
@@ -156,8 +154,7 @@ module _ (s : List ℕ) (h : DexHeader) (codes : List Code) (P : Supposed s (h .
     once = λ n l a b e.
         rising-once (offs hits) (entries-rise P kind wanted) n l
         (omega (arith, length-map hits (λ (z : Hit). z .off))) (omega (arith, length-map hits (λ (z : Hit). z .off))) e;
-    sound = λ c m n o x v C. within P kind wanted i j k c m n o x v C;
-    others = lies;
+    none-invented = a-use;
   }
 
   whole : Suffices s (h .methods .size) codes kind wanted L → Finds s codes kind wanted (ranOf s h kind wanted L)

@@ -2,21 +2,18 @@
 -- const-string/jumbo in the other. Both meet the supposition, and the operations give the use.
 -- Assumes nothing.
 use Prim.Native.Nat.{ℕ}
-use native.Mathlib.Omega.{arith}
 use mathlib.Core.Path.{refl}
 use mathlib.Core.List.{List, [], _∷_, _++_}
-use lib.Dec.{lit<, lit≤}
+use lib.Dec.{lit<}
 use lib.ListN.{replicate}
 use Rattle.tinydex.specs.declared.DexHeader.{DexHeader}
-use Rattle.dalvik.specs.Numbers.{le16, le32, Uleb128s}
+use Rattle.dalvik.specs.Numbers.{le16, le32}
 use Rattle.dalvik.specs.CodeItem.{Code}
 use Rattle.dalvik.specs.Formats.{formats, formatOf, lengthOf}
-use Rattle.dalvik.specs.ClassData.{EncodedMethods, Defined, CodesOf}
-use Rattle.dalvik.specs.ClassData.Defined.{some-data}
-use Rattle.dalvik.specs.ClassData.CodesOf.{without-map}
+use Rattle.dalvik.specs.ClassData.{CodesOf}
 use Rattle.dalvik.specs.Instructions.Reached.{here}
 use Rattle.completeness.specs.Completeness.{ArrayOf, Supposed}
-use Rattle.completeness.proofs.WorkedFile.{coded, class-data, next, codeOf, codesFrom, supposed, headerOf, Worked}
+use Rattle.completeness.proofs.WorkedFile.{one-method, next, codeOf, codesFrom, supposed, headerOf, Worked}
 
 -- as the whole case, but for the array at 64, of four units, with which the file ends: return-void and six bytes
 abbrev ending : ℕ → ℕ → ℕ → ℕ → ℕ → ℕ → List ℕ
@@ -33,18 +30,14 @@ codes = codesFrom 48 4 1 0
 found-here : (a b c d e f : ℕ) → CodesOf (ending a b c d e f) 0 0 1 codes
 unfolding codes le32 le16
 found-here a b c d e f =
-    let s = ending a b c d e f in
-    without-map refl
-    (some-data {i = 0} {cs = codes} {ds = []} (lit≤ tt) (λ q. omega arith)
-    (class-data s 32 (refl, refl, refl, refl) Uleb128s.no-more
-    (coded s 36 (refl, refl, refl, refl, refl) EncodedMethods.no-more) EncodedMethods.no-more) Defined.no-more)
+    one-method (ending a b c d e f) 48 4 (refl, refl) (refl, refl, refl, refl, refl, refl, refl) (refl, refl, refl, refl, refl) (refl, refl, refl)
 
 -- the region ends with the file, and the use, at this offset, is the only entry
 abbrev workedAt : ℕ → List ℕ → Worked
 workedAt off file = record {
   file = file;
   header = header;
-  built = record { number = 0; from = 64; to = 72; starts = 64 ∷ []; triples = 4 ∷ 4 ∷ 0 ∷ []; slots = 1 ∷ []; shares = [] };
+  built = record { number = 0; from = 64; to = 72; starts = 64 ∷ 72 ∷ []; triples = 4 ∷ 4 ∷ 0 ∷ []; slots = 1 ∷ []; shares = [] };
   hits = record { off = off; mark = 5 } ∷ [];
   answers = 1 ∷ [];
   slot = 1;

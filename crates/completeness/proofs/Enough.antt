@@ -21,12 +21,12 @@ use Rattle.completeness.proofs.Walks.{all-inside}
 use Rattle.completeness.proofs.Tried.{words-more, few-hits}
 use Rattle.completeness.proofs.Demand.{kind-read}
 
--- the room that lent slices have, of which the whole is passed on, but of the start words those of the methods
+-- the room that lent slices have, of which the whole is passed on, but of the start words those of the methods, two for each
 abbrev pub lentOf : ℕ → FindWords → Lent
 lentOf methods w = record {
   build = roomOf (w .table);
   slots = length (w .table .slots);
-  starts = methods;
+  starts = 2 * methods;
   shares = length (w .table .shares);
   hits = hitRoomOf (w .hits);
   answers = length (w .located .answers);
@@ -45,7 +45,7 @@ module _ {s : List ℕ} {mapoff classesOff classes methods : ℕ} {codes : List 
         words-more (kindNumber kind) (regionEnd (length s) codes - baseOf codes * 16) (length s) (omega (arith, end-inside (length s) codes)),
       )
 
-  pub table-enough : (room : Room) → methods ≤ room .starts → 3 * methods ≤ room .triples → length s / 16 ≤ room .slots → 3 * methods ≤ room .shares
+  pub table-enough : (room : Room) → 2 * methods ≤ room .starts → 3 * methods ≤ room .triples → length s / 16 ≤ room .slots → 3 * methods ≤ room .shares
       → HoldsTable methods codes room
   table-enough room a b c d =
       let f : length codes ≤ methods = codes-most in
@@ -66,5 +66,5 @@ module _ {s : List ℕ} {mapoff classesOff classes methods : ℕ} {codes : List 
         marks = omega (arith, E .marks);
         answers = omega (arith, E .answers);
         starts-passed = omega arith;
-        further = E .further;
+        further = omega (arith, E .further);
       }

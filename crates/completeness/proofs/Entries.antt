@@ -1,17 +1,19 @@
 -- Scan's entries and locate's answers over the tables of a build: an instruction that names a wanted index is an entry, and the answer of an
--- entry in a bucket of an array is its slot exactly where the walk from the array's start lands on it.
+-- entry in a bucket of an array is its slot exactly where it lies before the array's end and the walk from its start lands on it.
 -- Assumes nothing.
 use Prim.Native.Nat.{ℕ, _+_, _-_, _*_, _/_, _≤_, _<_}
 use native.Mathlib.Omega.{arith}
 use mathlib.Core.Path.{_≡_, sym, _∙_, ap}
 use mathlib.Core.Logic.{_≢_}
-use mathlib.Core.Bool.{cond}
+use mathlib.Core.Bool.{cond, _&&_}
 use mathlib.Core.List.{List, List·Memᴰ, Memᴰ·cast}
+use lib.Dec.{ltb}
 use lib.ListN.{length, getD, replicate, length-map, List·getD-map}
 use Rattle.dalvik.specs.Numbers.{byte}
 use Rattle.dalvik.specs.Formats.{lengthOf}
-use Rattle.dalvik.specs.CodeItem.{Code, start}
+use Rattle.dalvik.specs.CodeItem.{Code, start, stop}
 use Rattle.dalvik.specs.Instructions.{Kind, Names}
+use Rattle.start_words.specs.Starts.{pairCount}
 use Rattle.code_table.specs.Slots.{baseOf}
 use Rattle.code_table.specs.RegionEnd.{regionEnd}
 use Rattle.code_table.proofs.Buckets.{base-le}
@@ -99,12 +101,12 @@ module _ {s : List ℕ} {mapoff classesOff classes methods : ℕ} {codes : List 
     abbrev T : Tables
     T = tablesFor methods codes i j k
 
-    pub answers : Located s T (replicate (length (T .starts)) 0) (offs hits)
+    pub answers : Located s T (replicate (pairCount (T .starts)) 0) (offs hits)
     answers = located s T (answerable P i j k) (hits-above s Q) (omega arith) (none-yet s (T .starts))
 
     pub answer-at : (d : Code) → List·Memᴰ d codes → (n o x : ℕ) → n < length hits
         → getD hits n noHit ≡ record { off = o; mark = x } → InBuckets d (o / 16)
-        → getD (answers .answers) n 0 ≡ cond (lands s (start d) o) (slotOf T o) 0
+        → getD (answers .answers) n 0 ≡ cond (ltb o (stop d) && lands s (start d) o) (slotOf T o) 0
     answer-at d m n o x h e b =
         answer-is s T codes d o (getD (answers .answers) n 0) (owner P i j k d m o b)
         (rw (off-at hits n o x e) at (answers .each n (omega (arith, length-map hits (λ (z : Hit). z .off)))))

@@ -27,4 +27,5 @@ pub mod Case
 pub mod SharedCase
 pub mod EndCase
 pub mod PayloadCase
+pub mod PaddingCase
 pub mod Computed

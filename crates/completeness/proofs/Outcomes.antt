@@ -9,15 +9,16 @@ use lib.ListN.{length, getD}
 use Rattle.words.specs.Padded.{padded}
 use Rattle.refusal.specs.Outcomes.{Outcome}
 use Rattle.tinydex.specs.declared.DexHeader.{DexHeader}
-use Rattle.dalvik.specs.CodeItem.{Code, start, stop}
+use Rattle.dalvik.specs.CodeItem.{Code}
 use Rattle.dalvik.specs.Instructions.{Kind}
+use Rattle.start_words.specs.Starts.{pairsIn}
 use Rattle.code_table.specs.Slots.{baseOf, topOf, tableOf}
 use Rattle.code_table.specs.RegionEnd.{regionEnd}
 use Rattle.code_table.specs.Build.{Room, Build, buildOut}
 use Rattle.kinds.specs.Kinds.{kindNumber}
 use Rattle.code_item_scan.specs.Scan.{Hit, hitsOf, offs, Scan, asked, HitRoom, scanOut}
 use Rattle.insn_locator.specs.Locate.{Tables, locateOut}
-use Rattle.completeness.specs.Completeness.{Supposed, Lists, NamesWanted, Lies}
+use Rattle.completeness.specs.Completeness.{Supposed, Lists, NamesWanted, Use}
 
 -- ---- the operations, one after another
 
@@ -75,7 +76,7 @@ entriesOf s codes kind wanted = hitsOf s kind wanted (baseOf codes * 16) (region
 
 -- what the build writes
 pub record HoldsTable (methods : ℕ) (codes : List Code) (room : Room) : Type 0 where
-  pub starts : methods ≤ room .starts
+  pub starts : 2 * methods ≤ room .starts
   pub triples : 3 * length codes ≤ room .triples
   pub slots : topOf codes - baseOf codes ≤ room .slots
   pub shares : length (tableOf codes .shares) ≤ room .shares
@@ -86,9 +87,9 @@ pub record Suffices (s : List ℕ) (methods : ℕ) (codes : List Code) (kind : K
   pub offs : length (entriesOf s codes kind wanted) ≤ L .hits .offs
   pub marks : length (entriesOf s codes kind wanted) ≤ L .hits .marks
   pub answers : length (entriesOf s codes kind wanted) ≤ L .answers
-  -- the start words are passed on, and locate has a further word for each of them
-  pub starts-passed : methods ≤ L .starts
-  pub further : L .starts ≤ L .further
+  -- the start words are passed on, and locate has a further word for each pair of them
+  pub starts-passed : 2 * methods ≤ L .starts
+  pub further : pairsIn (L .starts) ≤ L .further
 
 -- ---- what holds of the outcomes
 
@@ -111,21 +112,19 @@ pub record Shown (codes : List Code) (c : Code) (R : Ran) (off index : ℕ) : Ty
   pub lists : Lists codes c (R .shares) slot
 
 pub record Finds (s : List ℕ) (codes : List Code) (kind : Kind) (wanted : List ℕ) (R : Ran) : Type 0 where
-  -- "build and .. scan, locate of scan's list .. all succeed"; so does the listing of a confirmed entry's slot, under `complete` and `others`
+  -- "build and .. scan, locate of scan's list .. all succeed"; so does the listing of a confirmed entry's slot, under `none-missing` and `none-invented`
   pub build-succeeds : R .build .number ≡ 0
   pub scan-succeeds : R .scan .number ≡ 0
   pub locate-succeeds : R .located .number ≡ 0
   -- each entry has an answer
   pub answered : length (R .located .list) ≡ length (R .scan .hits)
-  pub complete : (c : Code) → List·Memᴰ c codes → (off index : ℕ) → NamesWanted s c kind wanted off index → Shown codes c R off index
+  pub none-missing : (c : Code) → List·Memᴰ c codes → (off index : ℕ) → NamesWanted s c kind wanted off index → Shown codes c R off index
   pub rising : Rising (offs (R .scan .hits))
   -- no two entries have one offset
   pub once : (k l : ℕ) → k < length (R .scan .hits) → l < length (R .scan .hits)
       → getD (offs (R .scan .hits)) k 0 ≡ getD (offs (R .scan .hits)) l 0 → k ≡ l
-  pub sound : (c : Code) → List·Memᴰ c codes → (k off mark slot : ℕ) → Confirmed (R .scan .hits) (R .located .list) k off mark slot
-      → start c ≤ off → off < stop c → NamesWanted s c kind wanted off mark
-  pub others : (k off mark slot : ℕ) → Confirmed (R .scan .hits) (R .located .list) k off mark slot
-      → Lies s codes kind wanted (R .shares) (record { off = off; index = mark; slot = slot })
+  pub none-invented : (k off mark slot : ℕ) → Confirmed (R .scan .hits) (R .located .list) k off mark slot
+      → Use s codes kind wanted (R .shares) (record { off = off; index = mark; slot = slot })
 
 -- demand 3 for one call of each operation
 abbrev pub OverOutcomes : Type 0

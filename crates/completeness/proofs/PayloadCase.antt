@@ -3,23 +3,20 @@
 -- are not confirmed.
 -- Assumes nothing.
 use Prim.Native.Nat.{ℕ}
-use native.Mathlib.Omega.{arith}
 use mathlib.Core.Path.{refl}
 use mathlib.Core.List.{List, [], _∷_, _++_}
 use lib.Dec.{lit<, lit≤}
 use lib.ListN.{replicate}
 use Rattle.tinydex.specs.declared.DexHeader.{DexHeader}
-use Rattle.dalvik.specs.Numbers.{le16, le32, Uleb128s}
+use Rattle.dalvik.specs.Numbers.{le16, le32}
 use Rattle.dalvik.specs.CodeItem.{Code}
 use Rattle.dalvik.specs.Formats.{formats, formatOf, lengthOf}
-use Rattle.dalvik.specs.ClassData.{EncodedMethods, Defined, CodesOf}
-use Rattle.dalvik.specs.ClassData.Defined.{some-data}
-use Rattle.dalvik.specs.ClassData.CodesOf.{without-map}
+use Rattle.dalvik.specs.ClassData.{CodesOf}
 use Rattle.dalvik.specs.Instructions.Payload.{packed-switch, sparse-switch, fill-array-data}
 use Rattle.dalvik.specs.Instructions.Reached.{here, past-payload}
 use Rattle.code_item_scan.specs.Scan.{Hit}
 use Rattle.completeness.specs.Completeness.{ArrayOf, Supposed}
-use Rattle.completeness.proofs.WorkedFile.{coded, class-data, next, codeOf, codesFrom, supposed, headerOf, Worked}
+use Rattle.completeness.proofs.WorkedFile.{one-method, next, codeOf, codesFrom, supposed, headerOf, Worked}
 
 -- as the whole case up to the code item's last four bytes, the length of its array from 64 on
 abbrev front : List ℕ
@@ -46,10 +43,7 @@ codes = codesFrom 48 30 1 0
 found-here : CodesOf file 0 0 1 codes
 unfolding file codes le32 le16
 found-here =
-    without-map refl
-    (some-data {i = 0} {cs = codes} {ds = []} (lit≤ tt) (λ q. omega arith)
-    (class-data file 32 (refl, refl, refl, refl) Uleb128s.no-more
-    (coded file 36 (refl, refl, refl, refl, refl) EncodedMethods.no-more) EncodedMethods.no-more) Defined.no-more)
+    one-method file 48 30 (refl, refl) (refl, refl, refl, refl, refl, refl, refl) (refl, refl, refl, refl, refl) (refl, refl, refl)
 
 array : (m : ℕ) → ArrayOf file (codeOf 48 30 m)
 unfolding file le32 le16 lengthOf formatOf formats
@@ -75,7 +69,7 @@ unfoldable pub worked : Worked
 worked = record {
   file = file;
   header = header;
-  built = record { number = 0; from = 64; to = 124; starts = 64 ∷ []; triples = 4 ∷ 7 ∷ 0 ∷ []; slots = 1 ∷ 1 ∷ 1 ∷ 1 ∷ []; shares = [] };
+  built = record { number = 0; from = 64; to = 124; starts = 64 ∷ 124 ∷ []; triples = 4 ∷ 7 ∷ 0 ∷ []; slots = 1 ∷ 1 ∷ 1 ∷ 1 ∷ []; shares = [] };
   hits = hit 64 ∷ hit 80 ∷ hit 96 ∷ hit 112 ∷ hit 118 ∷ [];
   answers = 1 ∷ 1 ∷ 1 ∷ 0 ∷ 1 ∷ [];
   slot = 1;
@@ -94,10 +88,7 @@ first-codes = codesFrom 48 9 1 0
 first-found : CodesOf first-file 0 0 1 first-codes
 unfolding first-file first-codes le32 le16
 first-found =
-    without-map refl
-    (some-data {i = 0} {cs = first-codes} {ds = []} (lit≤ tt) (λ q. omega arith)
-    (class-data first-file 32 (refl, refl, refl, refl) Uleb128s.no-more
-    (coded first-file 36 (refl, refl, refl, refl, refl) EncodedMethods.no-more) EncodedMethods.no-more) Defined.no-more)
+    one-method first-file 48 9 (refl, refl) (refl, refl, refl, refl, refl, refl, refl) (refl, refl, refl, refl, refl) (refl, refl, refl)
 
 first-array : (m : ℕ) → ArrayOf first-file (codeOf 48 9 m)
 unfolding first-file le32 le16 lengthOf formatOf formats
@@ -117,7 +108,7 @@ unfoldable pub first-worked : Worked
 first-worked = record {
   file = first-file;
   header = header;
-  built = record { number = 0; from = 64; to = 82; starts = 64 ∷ []; triples = 4 ∷ 5 ∷ 0 ∷ []; slots = 1 ∷ 1 ∷ []; shares = [] };
+  built = record { number = 0; from = 64; to = 82; starts = 64 ∷ 82 ∷ []; triples = 4 ∷ 5 ∷ 0 ∷ []; slots = 1 ∷ 1 ∷ []; shares = [] };
   hits = hit 72 ∷ hit 76 ∷ [];
   answers = 0 ∷ 1 ∷ [];
   slot = 1;

@@ -12,6 +12,7 @@ use lib.Dec.{leb}
 use borrow.Author.Tests.{le-leb, leb-true, le-ltb}
 use Rattle.words.proofs.Shared.{and-left, and-right}
 use Rattle.refusal.specs.Refusals.{largestFile}
+use Rattle.start_words.specs.Starts.{pairsIn, pairCount}
 use Rattle.refusal.specs.Outcomes.{Outcome, refused}
 use Rattle.tinydex.specs.declared.DexHeader.{DexHeader}
 use Rattle.dalvik.specs.CodeItem.{Code}
@@ -48,7 +49,7 @@ module _ (s : List ℕ) (h : DexHeader) (codes : List Code) (P : Supposed s (h .
       leb (3 * length codes) (L .build .triples) && leb (topOf codes - baseOf codes) (L .build .slots)
       && leb (length (tableOf codes .shares)) (L .build .shares) && leb (length (tableOf codes .shares)) mostShares
 
-  holds-table : fits ≡ true → m ≤ L .build .starts → HoldsTable m codes (L .build)
+  holds-table : fits ≡ true → 2 * m ≤ L .build .starts → HoldsTable m codes (L .build)
   holds-table e a =
       let p = leb (3 * length codes) (L .build .triples) in
       let q = leb (topOf codes - baseOf codes) (L .build .slots) in
@@ -64,12 +65,13 @@ module _ (s : List ℕ) (h : DexHeader) (codes : List Code) (P : Supposed s (h .
   pub build-holds : builtOf s h L .number ≢ 4 → HoldsTable m codes (L .build)
   unfolding buildOut
   build-holds n =
-      let n₁ : cond (leb m (L .build .starts)) (builtFrom (length s) m (L .build) (codesOf s h)) (noBuild 4) .number ≢ 4 =
+      let n₁ : cond (leb m (pairsIn (L .build .starts))) (builtFrom (length s) m (L .build) (codesOf s h)) (noBuild 4) .number ≢ 4 =
       rw (le-ltb largestFile (length s) (P .small)) at n in
-      let a : leb m (L .build .starts) ≡ true = passed (λ (B : Build). B .number) (leb m (L .build .starts)) _ _ refl n₁ in
+      let a : leb m (pairsIn (L .build .starts)) ≡ true = passed (λ (B : Build). B .number) (leb m (pairsIn (L .build .starts))) _ _ refl n₁ in
       let n₂ : cond fits (wholeBuild (length s) m codes) (noBuild 4) .number ≢ 4 =
       rw (a, codes-found h (P .small) (P .found) (tested P) .1) at n₁ in
-      holds-table (passed (λ (B : Build). B .number) fits (wholeBuild (length s) m codes) (noBuild 4) refl n₂) (leb-true m (L .build .starts) a)
+      holds-table (passed (λ (B : Build). B .number) fits (wholeBuild (length s) m codes) (noBuild 4) refl n₂)
+      (omega (arith, leb-true m (pairsIn (L .build .starts)) a))
 
   pub scan-holds : scannedOf s kind wanted L (wholeBuild (length s) m codes) .number ≢ 4
       → (length hits ≤ L .hits .offs) × (length hits ≤ L .hits .marks)
@@ -87,16 +89,16 @@ module _ (s : List ℕ) (h : DexHeader) (codes : List Code) (P : Supposed s (h .
       let e : (p && q) ≡ true = passed (λ (S : Scan). S .number) (p && q) (record { number = 0; hits = hits }) (noScan 4) refl n₁ in
       (leb-true (length hits) (L .hits .offs) (and-left p q e), leb-true (length hits) (L .hits .marks) (and-right p q e))
 
-  pub locate-holds : m ≤ L .starts → locatedOf s L (wholeBuild (length s) m codes) (record { number = 0; hits = hits }) .number ≢ 4
-      → (length hits ≤ L .answers) × (L .starts ≤ L .further)
+  pub locate-holds : 2 * m ≤ L .starts → locatedOf s L (wholeBuild (length s) m codes) (record { number = 0; hits = hits }) .number ≢ 4
+      → (length hits ≤ L .answers) × (pairsIn (L .starts) ≤ L .further)
   unfolding locateOut
   locate-holds a n =
       let T = tablesFor m codes (L .slots) (L .starts) (L .shares) in
       let p = leb (length (offs hits)) (L .answers) in
-      let q = leb (length (T .starts)) (L .further) in
+      let q = leb (pairCount (T .starts)) (L .further) in
       let n₁ : cond (p && q) (answersFrom (locateAll s T (offs hits))) (refused 4) .number ≢ 4 =
       rw (passed-on s h codes P kind wanted L, le-ltb largestFile (length s) (P .small)) at n in
       let e : (p && q) ≡ true = passed (λ (A : Outcome). A .number) (p && q) (answersFrom (locateAll s T (offs hits))) (refused 4) refl n₁ in (
         omega (arith, leb-true (length (offs hits)) (L .answers) (and-left p q e), length-map hits (λ (z : Hit). z .off)),
-        omega (arith, leb-true (length (T .starts)) (L .further) (and-right p q e), starts-length s h codes P kind wanted L a),
+        omega (arith, leb-true (pairCount (T .starts)) (L .further) (and-right p q e), starts-length s h codes P kind wanted L a),
       )

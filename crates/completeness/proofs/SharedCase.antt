@@ -1,5 +1,5 @@
 -- A second file that meets the supposition, for the parts that the whole case lacks: class data by the map, a field, direct and virtual methods,
--- three methods with one code, const-string/jumbo, a payload, and a confirmed entry after the array.
+-- three methods with one code, const-string/jumbo, a payload, and an entry after the array.
 -- Assumes nothing.
 use Prim.Native.Nat.{ℕ}
 use native.Mathlib.Omega.{arith}
@@ -56,7 +56,7 @@ as-supposed : Supposed file 4 0 0 3 codes
 unfolding file codes
 as-supposed = supposed file 36 10 3 (refl, refl, refl, refl, refl) found-here array
 
--- ---- const-string, const-string/jumbo, and the entry after the array; second found, first found, then the rest
+-- ---- const-string, const-string/jumbo, and the entry after the array, which is not confirmed; second found, first found, then the rest
 unfoldable pub worked : Worked
 worked = record {
   file = file;
@@ -65,13 +65,13 @@ worked = record {
     number = 0;
     from = 48;
     to = 80;
-    starts = 52 ∷ 52 ∷ 52 ∷ [];
+    starts = 52 ∷ 72 ∷ 52 ∷ 72 ∷ 52 ∷ 72 ∷ [];
     triples = 3 ∷ 4 ∷ 0 ∷ 3 ∷ 4 ∷ 1 ∷ 3 ∷ 4 ∷ 2 ∷ [];
     slots = 2147483649 ∷ 2147483649 ∷ [];
     shares = 1 ∷ 0 ∷ 0 ∷ 1 ∷ 2 ∷ 1 ∷ [];
   };
   hits = record { off = 52; mark = 5 } ∷ record { off = 56; mark = 5 } ∷ record { off = 72; mark = 5 } ∷ [];
-  answers = 2147483649 ∷ 2147483649 ∷ 2147483649 ∷ [];
+  answers = 2147483649 ∷ 2147483649 ∷ 0 ∷ [];
   slot = 2147483649;
   methods = 1 ∷ 0 ∷ 2 ∷ [];
 }

@@ -1,39 +1,48 @@
--- The start word of a method with code is its array's start: no method has code twice, so no later code writes over it.
+-- The start words of a method with code are its array's start and end: no method has code twice, so no later code writes over them.
 -- Assumes nothing.
-use Prim.Native.Nat.{ℕ, _<_}
+use Prim.Native.Nat.{ℕ, _*_, _<_}
 use native.Mathlib.Omega.{arith}
 use mathlib.Core.Path.{_≡_, refl, _∙_}
 use mathlib.Core.List.{List, [], _∷_, List·Memᴰ, List·Memᴰ·head, List·Memᴰ·tail}
+use mathlib.Core.Option.{some}
 use lib.ListN.{length}
-use Rattle.start_words.specs.Starts.{startCount, startOf, withStart, noStarts}
-use Rattle.start_words.proofs.Starts.{length-with, start-same, start-other, count-none}
-use Rattle.dalvik.specs.CodeItem.{Code, start}
+use Rattle.start_words.specs.Starts.{pairCount, Pair, pair, pairOf, withArray, noStarts}
+use Rattle.start_words.proofs.Starts.{length-with, array-same, array-other, length-none}
+use Rattle.dalvik.specs.CodeItem.{Code, start, stop}
 use Rattle.class_data.specs.Stored.{startsFrom, startsOf}
 use Rattle.completeness.specs.Completeness.{Distinct, methodsOf}
 
+-- the words with the code of c
+abbrev with-code : List ℕ → Code → List ℕ
+with-code ws c = withArray ws (c .method) (start c) (stop c)
+
 starts-length : (ws : List ℕ) (cs : List Code) → length (startsFrom ws cs) ≡ length ws
 starts-length ws [] = refl
-starts-length ws (c ∷ cs) = starts-length (withStart ws (c .method) (start c)) cs ∙ length-with ws (c .method) (start c)
+starts-length ws (c ∷ cs) = starts-length (with-code ws c) cs ∙ length-with ws (c .method) (start c) (stop c)
 
-starts-other : (ws : List ℕ) (cs : List Code) (m : ℕ) → (List·Memᴰ m (methodsOf cs) → ⊥) → startOf (startsFrom ws cs) m ≡ startOf ws m
+starts-other : (ws : List ℕ) (cs : List Code) (m : ℕ) → (List·Memᴰ m (methodsOf cs) → ⊥) → pairOf (startsFrom ws cs) m ≡ pairOf ws m
 starts-other ws [] m f = refl
 starts-other ws (c ∷ cs) m f =
-    starts-other (withStart ws (c .method) (start c)) cs m (λ k. f (List·Memᴰ·tail k)) ∙ start-other ws (c .method) (start c) m
-    (λ e. f (List·Memᴰ·head e))
+    starts-other (with-code ws c) cs m (λ k. f (List·Memᴰ·tail k))
+    ∙ array-other ws (c .method) (start c) (stop c) m (λ e. f (List·Memᴰ·head e))
 
-starts-mem : {c : Code} {cs : List Code} → List·Memᴰ c cs → Distinct (methodsOf cs) → (ws : List ℕ) → c .method < startCount ws
-    → startOf (startsFrom ws cs) (c .method) ≡ start c
+-- where the array of c starts and ends
+abbrev pub arrayOf : Code → Pair
+arrayOf c = pair (start c) (stop c)
+
+starts-mem : {c : Code} {cs : List Code} → List·Memᴰ c cs → Distinct (methodsOf cs) → (ws : List ℕ) → c .method < pairCount ws
+    → pairOf (startsFrom ws cs) (c .method) ≡ some (arrayOf c)
 unfolding Distinct
 starts-mem {c} (List·Memᴰ·head {x = d} {xs = cs} e) u ws h =
-    rw e (starts-other (withStart ws (d .method) (start d)) cs (d .method) (u .0) ∙ start-same ws (d .method) (start d) (rw e at h))
+    rw e (starts-other (with-code ws d) cs (d .method) (u .0) ∙ array-same ws (d .method) (start d) (stop d) (rw e at h))
 starts-mem {c} (List·Memᴰ·tail {x = d} {xs = cs} m) u ws h =
-    starts-mem m (u .1) (withStart ws (d .method) (start d)) (omega (arith, length-with ws (d .method) (start d)))
+    starts-mem m (u .1) (with-code ws d) (omega (arith, length-with ws (d .method) (start d) (stop d)))
 
-pub startsOf-length : (methods : ℕ) (cs : List Code) → length (startsOf methods cs) ≡ methods
+pub startsOf-length : (methods : ℕ) (cs : List Code) → length (startsOf methods cs) ≡ 2 * methods
 unfolding startsOf
-startsOf-length methods cs = starts-length (noStarts methods) cs ∙ count-none methods
+startsOf-length methods cs = starts-length (noStarts methods) cs ∙ length-none methods
 
 pub startsOf-mem : (methods : ℕ) {c : Code} {cs : List Code} → List·Memᴰ c cs → Distinct (methodsOf cs) → c .method < methods
-    → startOf (startsOf methods cs) (c .method) ≡ start c
+    → pairOf (startsOf methods cs) (c .method) ≡ some (arrayOf c)
 unfolding startsOf
-startsOf-mem methods m u h = starts-mem m u (noStarts methods) (omega (arith, count-none methods))
+startsOf-mem methods m u h = starts-mem m u (noStarts methods) (omega (arith, length-none methods))

@@ -50,7 +50,7 @@ module _ {s : List ℕ} {codes : List Code} {kind : Kind} {wanted : List ℕ} {R
 
   shows : (c : Code) → List·Memᴰ c codes → (off index : ℕ) → NamesWanted s c kind wanted off index → Shows codes c (length hits) w off index
   shows c m off index N =
-      let x : Shown codes c R off index = F .complete c m off index N in
+      let x : Shown codes c R off index = F .none-missing c m off index N in
       let E : Confirmed hits (R .located .list) (x .k) off index (x .slot) = x .entry in
       record {
         k = x .k;
@@ -81,8 +81,7 @@ module _ {s : List ℕ} {codes : List Code} {kind : Kind} {wanted : List ℕ} {R
 
   pub delivers : Delivers s codes kind wanted (length hits) w
   delivers = record {
-    complete = shows;
+    none-missing = shows;
+    none-invented = λ k l n. rw (H .shares) (F .none-invented k (entryAt w k .off) (entryAt w k .index) (entryAt w k .slot) (entry-of k l n));
     rising = rises;
-    sound = λ c m k l n. F .sound c m k (entryAt w k .off) (entryAt w k .index) (entryAt w k .slot) (entry-of k l n);
-    others = λ k l n. rw (H .shares) (F .others k (entryAt w k .off) (entryAt w k .index) (entryAt w k .slot) (entry-of k l n));
   }

@@ -14,12 +14,14 @@ use Rattle.words.specs.Padded.{zeros}
 use Rattle.words.proofs.Shared.{and-left, and-right}
 use Rattle.refusal.specs.Outcomes.{success}
 use Rattle.tinydex.specs.declared.DexHeader.{DexHeader}
-use Rattle.dalvik.specs.Numbers.{byte, le16, Bytes, Uleb128, Uleb128s}
+use Rattle.dalvik.specs.Numbers.{byte, le16, le32, Bytes, Uleb128, Uleb128s}
 use Rattle.dalvik.specs.Numbers.Leb128.{last-byte}
 use Rattle.dalvik.specs.CodeItem.{Code, insns-size}
 use Rattle.dalvik.specs.Formats.{lengthOf}
-use Rattle.dalvik.specs.ClassData.{EncodedMethods, ClassData, CodesOf}
+use Rattle.dalvik.specs.ClassData.{EncodedMethods, ClassData, Defined, CodesOf}
 use Rattle.dalvik.specs.ClassData.EncodedMethods.{with-code}
+use Rattle.dalvik.specs.ClassData.Defined.{some-data}
+use Rattle.dalvik.specs.ClassData.CodesOf.{without-map}
 use Rattle.dalvik.specs.Instructions.{Instruction, Reached}
 use Rattle.dalvik.specs.Instructions.Reached.{past-instruction}
 use Rattle.dalvik.specs.Instructions.Kind.{strings}
@@ -101,6 +103,23 @@ module _ (s : List ℕ) where
     all = refl;
   }
 
+  -- a file without map, whose only class definition has class data at 32, and these one method with code, a direct one
+  pub one-method : (off units : ℕ) → (leb 32 (length s) ≡ true) × (le32 s 24 ≡ 32)
+      → Small 32 × Small 33 × Small 34 × Small 35 × Small 36 × Small 37 × Small 38
+      → (byte s 32 ≡ 0) × (byte s 33 ≡ 0) × (byte s 34 ≡ 1) × (byte s 35 ≡ 0) × (byte s 36 ≡ 0)
+      → (byte s 38 ≡ off) × (insns-size s off ≡ units) × (ltb 0 off ≡ true)
+      → CodesOf s 0 0 1 (codesFrom off units 1 0)
+  one-method off units a t b c =
+      let some : 0 < off = ltb-true 0 off (c .2) in
+      let is : record { method = 0 + byte s 36; off = byte s 38; units = insns-size s (byte s 38) } ≡ codeOf off units 0 = rw (b .4, c .0, c .1) in
+      let coded-one : EncodedMethods s 1 36 0 (codeOf off units 0 ∷ []) 39 =
+      rw is at (coded {m = 0} 36 (t .4, t .5, t .6, rw (b .4), rw (c .0, c .2)) EncodedMethods.no-more) in
+      let data-at : ClassData s 32 (codeOf off units 0 ∷ []) 39 =
+      class-data {f = 36} {g = 39} {ds = codeOf off units 0 ∷ []} {vs = []} 32 (t .0, t .1, t .2, t .3) (rw (b .0, b .1) Uleb128s.no-more) (rw (b .2) coded-one) (rw (b .3) EncodedMethods.no-more) in
+      without-map refl
+      (some-data {i = 0} {e = 39} {cs = codeOf off units 0 ∷ []} {ds = []} (leb-true 32 (length s) (a .0)) (λ q. omega (arith, a .1))
+      (rw (a .1) data-at) Defined.no-more)
+
   -- ---- an instruction, after which the array goes on. A unit below 0x0100 opens no payload
   pub next : {e q : ℕ} (p : ℕ)
       → (ltb (le16 s p) 256 ≡ true) × (ltb 0 (lengthOf (byte s p)) ≡ true) × (leb (p + 2 * lengthOf (byte s p)) e ≡ true)
@@ -159,12 +178,12 @@ module _ (s : List ℕ) where
 -- ---- buffers of just the lengths that are enough
 abbrev pub least : ℕ → ℕ → ℕ → FindWords
 least n methods kind =
-    findWords (tableWords (zeros methods) (zeros (3 * methods)) (zeros (n / 16)) (zeros (3 * methods)))
+    findWords (tableWords (zeros (2 * methods)) (zeros (3 * methods)) (zeros (n / 16)) (zeros (3 * methods)))
     (hitWords (zeros (mostEntries kind n)) (zeros (mostEntries kind n))) (locateWords (zeros methods) (zeros (mostEntries kind n)))
 
 pub least-enough : (n methods kind : ℕ) → Enough n methods kind (least n methods kind)
 least-enough n methods kind = record {
-  starts = exactly methods;
+  starts = exactly (2 * methods);
   triples = exactly (3 * methods);
   slots = exactly (n / 16);
   shares = exactly (3 * methods);

@@ -3,7 +3,7 @@
 -- Assumes nothing.
 use Prim.Native.Nat.{ℕ, _+_, _*_, _/_, _%_, _≤_, _<_}
 use mathlib.Core.Path.{_≡_}
-use mathlib.Core.Logic.{_≢_, _⊎_}
+use mathlib.Core.Logic.{_≢_}
 use mathlib.Core.Bool.{cond}
 use mathlib.Core.List.{List, [], _∷_, map, List·Memᴰ}
 use lib.ListN.{length, getD}
@@ -43,13 +43,6 @@ pub data CoincideOrApart (c d : Code) : Type 0 where
   coincide : c .off ≡ d .off → c .units ≡ d .units → CoincideOrApart c d
   ends-before : stop c ≤ d .off → CoincideOrApart c d
   begins-after : stop d ≤ c .off → CoincideOrApart c d
-
--- "the 16-byte blocks, counted from offset 0, that hold a byte of it": b is one of the array of c
-pub record BlockOf (c : Code) (b : ℕ) : Type 0 where
-  pub at : ℕ
-  pub from-start : start c ≤ at
-  pub before-stop : at < stop c
-  pub holds : at / 16 ≡ b
 
 -- "whole published instructions", with "payloads anywhere among their instructions": one or more, one after another, up to the array's end
 -- exactly. That one of them is an instruction isn't supposed
@@ -100,7 +93,7 @@ mostEntries kind n = cond (eqb kind 1) n ((n + 1) / 2)
 -- slices that suffice for every supposed file of n bytes, whatever is wanted. A file may do with less: the finder refuses 4 where a slice
 -- is shorter than the result
 pub record Enough (n methods kind : ℕ) (w : FindWords) : Type 0 where
-  pub starts : methods ≤ length (w .table .starts)
+  pub starts : 2 * methods ≤ length (w .table .starts)
   pub triples : 3 * methods ≤ length (w .table .triples)
   pub slots : n / 16 ≤ length (w .table .slots)
   pub shares : 3 * methods ≤ length (w .table .shares)
@@ -143,7 +136,7 @@ pub record Entry : Type 0 where
 abbrev pub entryAt : FindWords → ℕ → Entry
 entryAt w k = record { off = getD (w .hits .offs) k 0; index = getD (w .hits .marks) k 0; slot = getD (w .located .answers) k 0 }
 
--- one of the n entries is a confirmed one with this offset and index, and lists the methods with the code of c
+-- one of the n entries is a confirmed one with this offset and index, and its slot lists the methods with the code of c
 pub record Shows (codes : List Code) (c : Code) (n : ℕ) (w : FindWords) (off index : ℕ) : Type 0 where
   pub k : ℕ
   pub in-list : k < n
@@ -152,28 +145,23 @@ pub record Shows (codes : List Code) (c : Code) (n : ℕ) (w : FindWords) (off i
   pub confirmed : entryAt w k .slot ≢ 0
   pub lists : Lists codes c (w .table .shares) (entryAt w k .slot)
 
--- where a confirmed entry lies: in a block of an array of which its slot lists the methods, and there it is an instruction naming a wanted
--- index, or else at or after that array's end
-pub record Lies (s : List ℕ) (codes : List Code) (kind : Kind) (wanted shares : List ℕ) (e : Entry) : Type 0 where
+-- an entry is a use: at its offset an instruction of the array of c names the index beside it, which is wanted, and its slot lists the methods
+-- with the code of c
+pub record Use (s : List ℕ) (codes : List Code) (kind : Kind) (wanted shares : List ℕ) (e : Entry) : Type 0 where
   pub c : Code
   pub found : List·Memᴰ c codes
-  pub block : BlockOf c (e .off / 16)
+  pub names : NamesWanted s c kind wanted (e .off) (e .index)
   pub lists : Lists codes c shares (e .slot)
-  pub which : NamesWanted s c kind wanted (e .off) (e .index) ⊎ (stop c ≤ e .off)
 
--- the n entries in the words w
+-- of the n entries in the words w, the confirmed ones are "exactly the instructions naming a wanted index"
 pub record Delivers (s : List ℕ) (codes : List Code) (kind : Kind) (wanted : List ℕ) (n : ℕ) (w : FindWords) : Type 0 where
-  -- no use is lost: "Every instruction naming a wanted string, type, field or method index is a confirmed entry .. with that index beside it,
+  -- none is missing: "Every instruction naming a wanted string, type, field or method index is a confirmed entry .. with that index beside it,
   -- and its slot lists exactly the methods with that code, each once"
-  pub complete : (c : Code) → List·Memᴰ c codes → (off index : ℕ) → NamesWanted s c kind wanted off index → Shows codes c n w off index
+  pub none-missing : (c : Code) → List·Memᴰ c codes → (off index : ℕ) → NamesWanted s c kind wanted off index → Shows codes c n w off index
+  -- none is invented: every confirmed entry is such an instruction; "the listing of each confirmed entry's slot .. succeed[s]"
+  pub none-invented : (k : ℕ) → k < n → entryAt w k .slot ≢ 0 → Use s codes kind wanted (w .table .shares) (entryAt w k)
   -- ".. once, by rising offset"
   pub rising : (i j : ℕ) → i < j → j < n → entryAt w i .off < entryAt w j .off
-  -- none is invented: a confirmed entry within an array is such an instruction of it
-  pub sound : (c : Code) → List·Memᴰ c codes → (k : ℕ) → k < n → entryAt w k .slot ≢ 0 → start c ≤ entryAt w k .off → entryAt w k .off < stop c
-      → NamesWanted s c kind wanted (entryAt w k .off) (entryAt w k .index)
-  -- "any other confirmed entry lies in a block of an array, [after] that array's end"; "the listing of each confirmed entry's slot ..
-  -- succeed[s]"
-  pub others : (k : ℕ) → k < n → entryAt w k .slot ≢ 0 → Lies s codes kind wanted (w .table .shares) (entryAt w k)
 
 -- what the finder is called with: a file, its header record, a kind's number and the wanted indices
 pub record Call : Type 0 where

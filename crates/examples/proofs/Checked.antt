@@ -15,11 +15,14 @@ use Rattle.opcodes.specs.Length.{lengthRead, unitsOf}
 use Rattle.kinds.specs.Width.{widthOf}
 use Rattle.kinds.specs.Kinds.{kindOf}
 use Rattle.code_item_scan.specs.Scan.{scanOut, hitsBy, hitsIn, isTried, indexAt}
-use Rattle.insn_locator.specs.Walk.{payloadUnits, step}
+use Rattle.insn_locator.specs.Walk.{payloadUnits, step, walkIn, walk}
+use Rattle.insn_locator.specs.Locate.{slotAt, firstOf, locateFrom, locateAll, locateOut}
+use Rattle.start_words.specs.Starts.{pairOf, withArray, noStarts}
+use Rattle.class_data.specs.Stored.{startsOf}
 use Rattle.examples.specs.Table.{Table}
 
 pub checked : Table
-unfolding ulebFast uleb ulebLen lengthRead unitsOf stringText afterLength textFrom firstZero zeroOf le16 le32 idsWhere joined tabulate groupsOf stretchOf scanOut kindOf hitsBy hitsIn isTried widthOf indexAt stretch joinedSlot place tableOf chain listed listOut joinedShare owner step payloadUnits
+unfolding ulebFast uleb ulebLen lengthRead unitsOf stringText afterLength textFrom firstZero zeroOf le16 le32 idsWhere joined tabulate groupsOf stretchOf scanOut kindOf hitsBy hitsIn isTried widthOf indexAt stretch joinedSlot place tableOf chain listed listOut joinedShare owner step payloadUnits walkIn walk slotAt firstOf locateFrom locateAll locateOut pairOf withArray noStarts startsOf
 checked = record {
   two-bytes = refl;
   greatest = refl;
@@ -45,6 +48,10 @@ checked = record {
   greatest-data = refl;
   other-unit = refl;
   single-byte = refl;
+  start-words = refl;
+  before-the-end = refl;
+  at-the-end = refl;
+  half-a-pair = refl;
   return-void = refl;
   const-string = refl;
   const-string-jumbo = refl;

@@ -14,7 +14,7 @@ use Rattle.dalvik.specs.Ids.{type-descriptor-idx}
 use Rattle.groups.specs.Built.{GroupWords, groupsOf}
 use Rattle.groups.specs.Stretch.{stretchOf}
 use Rattle.dalvik.specs.CodeItem.{Code}
-use Rattle.refusal.specs.Outcomes.{success}
+use Rattle.refusal.specs.Outcomes.{Outcome, success, refused}
 use Rattle.code_table.specs.Slots.{tableOf}
 use Rattle.slot_listing.specs.Listing.{listOut}
 use Rattle.string_search.specs.Owner.{owner}
@@ -23,6 +23,9 @@ use Rattle.opcodes.specs.Length.{lengthRead}
 use Rattle.opcodes.specs.declared.Length.the-variants.{Units, Nothing}
 use Rattle.code_item_scan.specs.Scan.{Scan, asked, hitRoom, scanOut}
 use Rattle.insn_locator.specs.Walk.{step}
+use Rattle.insn_locator.specs.Locate.{locateOut}
+use Rattle.insn_locator.specs.Answers.{tables}
+use Rattle.class_data.specs.Stored.{startsOf}
 
 -- the scan of a region alone for index 5, with room for one hit
 abbrev scanned : List ℕ → ℕ → Scan
@@ -50,6 +53,10 @@ onOneItem m = record { method = m; off = 48; units = 3 }
 
 abbrev fourSevenNine : List Code
 fourSevenNine = onOneItem 4 ∷ onOneItem 7 ∷ onOneItem 9 ∷ []
+
+-- the entry 4 in 00 00 0e 00 1a 00 05 00, whose block is that of method 0, with these start words
+abbrev locatedBy : List ℕ → Outcome
+locatedBy starts = locateOut (0x00 ∷ 0x00 ∷ 0x0e ∷ 0x00 ∷ 0x1a ∷ 0x00 ∷ 0x05 ∷ 0x00 ∷ []) (tables 0 (1 ∷ []) starts []) (4 ∷ []) 1 1
 
 pub record Table : Type 0 where
   -- 80 7f is 16256 in 2
@@ -96,6 +103,12 @@ pub record Table : Type 0 where
   -- 00 04 opens none, nor does 00 with nothing after it
   pub other-unit : step (0x00 ∷ 0x04 ∷ []) 0 ≡ some 2
   pub single-byte : step (0x00 ∷ []) 0 ≡ some 2
+  -- start words: of two methods the first has code at 48, of four units
+  pub start-words : startsOf 2 (record { method = 0; off = 48; units = 4 } ∷ []) ≡ 64 ∷ 72 ∷ 0 ∷ 0 ∷ []
+  -- an entry before the end of its method is confirmed, though its instruction passes the end; one at the end isn't; half a pair is none
+  pub before-the-end : locatedBy (2 ∷ 6 ∷ []) ≡ success (1 ∷ [])
+  pub at-the-end : locatedBy (2 ∷ 4 ∷ []) ≡ success (0 ∷ [])
+  pub half-a-pair : locatedBy (2 ∷ []) ≡ refused 15
   -- instruction lengths: an opcode of each, and one without
   pub return-void : lengthRead 0x0e ≡ Units 1
   pub const-string : lengthRead 0x1a ≡ Units 2

@@ -17,7 +17,7 @@ use Rattle.refusal.specs.Refusals.{tooLarge}
 use Rattle.refusal.specs.declared.Refusal.{Refusal}
 use Rattle.refusal.specs.declared.Answer.{Answer}
 use Rattle.refusal.specs.declared.Answer.the-variants as a
-use Rattle.start_words.specs.Starts.{startCount, firstStarts}
+use Rattle.start_words.specs.Starts.{pairsIn, firstStarts}
 use Rattle.start_words.proofs.Starts.{first-padded}
 use Rattle.tinydex.specs.declared.DexHeader.{DexHeader}
 use Rattle.class_data.specs.Walk.{Walk}
@@ -84,9 +84,9 @@ module _ (o : Search) (g : Region) (before after : FindWords) where
         answers = S .answers;
       }
 
--- ---- a build that succeeds has a start word for each method
+-- ---- a build that succeeds has two start words for each method
 abbrev StartEach : ℕ → Build → Type 0
-StartEach m B = B .number ≡ 0 → startCount (B .starts) ≡ m
+StartEach m B = B .number ≡ 0 → length (B .starts) ≡ 2 * m
 
 start-each : (len m : ℕ) (room : Room) (x : Walk) → StartEach m (builtFrom len m room x)
 start-each len m room (refused r) = λ e. absurd (some-number r e)
@@ -100,7 +100,7 @@ pub built-starts : (s : List ℕ) (h : DexHeader) (room : Room) → StartEach (h
 unfolding buildOut
 built-starts s h room =
     cond-elim (StartEach (h .methods .size)) (tooLarge (length s)) (noBuild 1) _ (λ _ e. absurd (omega arith))
-    (λ _. cond-elim (StartEach (h .methods .size)) (leb (h .methods .size) (room .starts))
+    (λ _. cond-elim (StartEach (h .methods .size)) (leb (h .methods .size) (pairsIn (room .starts)))
     (builtFrom (length s) (h .methods .size) room (codesOf s h)) (noBuild 4)
     (λ _. start-each (length s) (h .methods .size) room (codesOf s h)) (λ _ e. absurd (omega arith)))
 

@@ -2,7 +2,7 @@
 -- and locate succeed as demand 3 says of their outcomes; and the words in the lent slices are the outcomes' lists. With slices that are
 -- enough each holds what is written to it, and so the outcome is not 4.
 -- Assumes nothing.
-use Prim.Native.Nat.{ℕ, _/_}
+use Prim.Native.Nat.{ℕ, _*_, _/_}
 use native.Mathlib.Omega.{arith}
 use mathlib.Core.Path.{_≡_, refl, sym, ap, _∙_}
 use mathlib.Core.Logic.{_≢_, ⊎-elim}
@@ -67,7 +67,7 @@ module _ (s : List ℕ) (h : DexHeader) (kind : Kind) (wanted : List ℕ) (w : F
       locateOut s
       (tables (R .build .from / 16) (padded (L .build .slots) (R .build .slots)) zs (padded (L .build .shares) (R .build .shares)))
       (offs (R .scan .hits)) (L .answers) (L .further))
-      (sym (padded-full m (R .build .starts) (built-starts s h (L .build) p)))
+      (sym (padded-full (2 * m) (R .build .starts) (built-starts s h (L .build) p)))
 
   -- the build refuses
   number-unbuilt : R .build .number ≢ 0 → goal .number ≡ R .build .number

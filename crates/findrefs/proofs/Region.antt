@@ -13,7 +13,7 @@ use Rattle.words.proofs.Shared.{cond-elim}
 use Rattle.refusal.specs.Refusals.{tooLarge}
 use Rattle.refusal.specs.Outcomes.{Outcome, refused}
 use Rattle.tinydex.specs.declared.DexHeader.{DexHeader}
-use Rattle.start_words.specs.Starts.{startCount}
+use Rattle.start_words.specs.Starts.{pairCount}
 use Rattle.code_table.specs.RegionEnd.{RegionInside}
 use Rattle.code_table.specs.Build.{Build, buildOut}
 use Rattle.code_table.proofs.Inside.{region-inside, never-12}
@@ -37,7 +37,7 @@ module _ (s : List ℕ) (T : Tables) (entries : List ℕ) (answers further : ℕ
   unfolding locateOut
   locate-never-12 =
       cond-elim (λ (A : Outcome). A .number ≢ 12) (tooLarge (length s)) (refused 1) _ (λ _ q. omega arith)
-      (λ _. cond-elim (λ (A : Outcome). A .number ≢ 12) (leb (length entries) answers && leb (startCount (T .starts)) further)
+      (λ _. cond-elim (λ (A : Outcome). A .number ≢ 12) (leb (length entries) answers && leb (pairCount (T .starts)) further)
       (answersFrom (locateAll s T entries)) (refused 4) (λ _. from-answers (locateAll s T entries)) (λ _ q. omega arith))
 
 -- ---- the search over a region that lies in the file

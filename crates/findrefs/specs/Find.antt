@@ -66,7 +66,7 @@ found B R =
     (record { number = 0; build = B; hits = R .hits; answers = R .answers })
     (record { number = R .number; build = noBuild (R .number); hits = R .hits; answers = R .answers })
 
--- the build's own tables: its slots and shares as they stand in the lent slices, and a start word for each method
+-- the build's own tables: its slots and shares as they stand in the lent slices, and the start words of the methods
 abbrev pub builtTables : Build → Lengths → Tables
 builtTables B L = tables (B .from / 16) (padded (L .build .slots) (B .slots)) (B .starts) (padded (L .build .shares) (B .shares))
 

@@ -9,10 +9,10 @@ use native.Mathlib.Nat.{add-zero}
 use native.Mathlib.Omega.{arith}
 use lib.ListN.{length, getD, set}
 use borrow.Author.Tests.{lt-ltb, le-ltb, le-leb, lt-leb, eq-eqb, ne-eqb}
-use Rattle.start_words.specs.Starts.{hasStart, startOf}
+use Rattle.start_words.specs.Starts.{Pair, pairOf}
 use Rattle.code_table.specs.Slots.{shared}
 use Rattle.insn_locator.specs.Walk.{lands}
-use Rattle.insn_locator.specs.Locate.{Tables, slotAt, firstOf, Answered, fromOf, tried, answeredBy, answered}
+use Rattle.insn_locator.specs.Locate.{Tables, slotAt, firstOf, Answered, fromOf, tried, triedBy, answeredBy, answered}
 
 -- ---- the slot and its first method
 
@@ -40,22 +40,19 @@ module _ (ws : List ℕ) (v : ℕ) where
 
 -- ---- a method's walk tried
 
-module _ (starts last : List ℕ) (m a : ℕ) (confirmed : a ≡ getD last m 0) where
-  pub from-confirmed : (a ≡ 0 → ⊥) → a ≡ fromOf starts last m
-  from-confirmed n = rw (← confirmed, ne-eqb a 0 n)
+module _ (s : List ℕ) (p : Pair) (last : List ℕ) (v m t : ℕ) where
+  pub tried-past : p .end ≤ t → record { answer = 0; last = last } ≡ tried s p last v m t
+  tried-past h = rw (le-ltb t (p .end) h)
 
-  pub from-start : a ≡ 0 → startOf starts m ≡ fromOf starts last m
-  from-start z = rw (← confirmed, eq-eqb a 0 z)
+  module _ (before : t < p .end) (from : ℕ) (here : from ≡ fromOf (p .start) (getD last m 0)) where
+    pub tried-none : from ≡ 0 → record { answer = 0; last = last } ≡ tried s p last v m t
+    tried-none z = rw (lt-ltb t (p .end) before, ← here, le-ltb 0 from (omega arith))
 
-module _ (s starts last : List ℕ) (v m t from : ℕ) (here : from ≡ fromOf starts last m) where
-  pub tried-none : from ≡ 0 → record { answer = 0; last = last } ≡ tried s starts last v m t
-  tried-none z = rw (← here, le-ltb 0 from (omega arith))
+    pub tried-off : 0 < from → lands s from t ≡ false → record { answer = 0; last = last } ≡ tried s p last v m t
+    tried-off h e = rw (lt-ltb t (p .end) before, ← here, lt-ltb 0 from h, e)
 
-  pub tried-off : 0 < from → lands s from t ≡ false → record { answer = 0; last = last } ≡ tried s starts last v m t
-  tried-off h e = rw (← here, lt-ltb 0 from h, e)
-
-  pub tried-on : 0 < from → lands s from t ≡ true → record { answer = v; last = set last m t } ≡ tried s starts last v m t
-  tried-on h e = rw (← here, lt-ltb 0 from h, e)
+    pub tried-on : 0 < from → lands s from t ≡ true → record { answer = v; last = set last m t } ≡ tried s p last v m t
+    tried-on h e = rw (lt-ltb t (p .end) before, ← here, lt-ltb 0 from h, e)
 
 -- ---- an entry answered
 
@@ -70,11 +67,11 @@ module _ (s : List ℕ) (T : Tables) (last : List ℕ) (t v : ℕ) (slot : v ≡
   pub entry-missing : 0 < v → none ≡ firstOf (T .shares) v → none ≡ answered s T last t (slotAt (T .base) (T .slots) t)
   entry-missing h e = entry-by none h e
 
-  pub entry-unknown : (m : ℕ) → 0 < v → some m ≡ firstOf (T .shares) v → hasStart (T .starts) m ≡ false
+  pub entry-unknown : (m : ℕ) → 0 < v → some m ≡ firstOf (T .shares) v → none ≡ pairOf (T .starts) m
       → none ≡ answered s T last t (slotAt (T .base) (T .slots) t)
-  entry-unknown m h e k = rw k at (entry-by (some m) h e)
+  entry-unknown m h e k = ap (triedBy s last v m t) k ∙ entry-by (some m) h e
 
-  pub entry-tried : (m : ℕ) (r : Answered) → 0 < v → some m ≡ firstOf (T .shares) v → hasStart (T .starts) m ≡ true
-      → r ≡ tried s (T .starts) last v m t
+  pub entry-tried : (m : ℕ) (p : Pair) (r : Answered) → 0 < v → some m ≡ firstOf (T .shares) v → some p ≡ pairOf (T .starts) m
+      → r ≡ tried s p last v m t
       → some r ≡ answered s T last t (slotAt (T .base) (T .slots) t)
-  entry-tried m r h e k q = ap some q ∙ (rw k at (entry-by (some m) h e))
+  entry-tried m p r h e k q = ap some q ∙ ap (triedBy s last v m t) k ∙ entry-by (some m) h e

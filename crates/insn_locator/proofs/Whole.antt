@@ -13,6 +13,7 @@ use Rattle.words.specs.Padded.{zeros, padded}
 use Rattle.words.proofs.Padded.{sets-zeros}
 use Rattle.refusal.specs.Refusals.{tooLarge}
 use Rattle.refusal.specs.Outcomes.{refused, success}
+use Rattle.start_words.specs.Starts.{pairCount}
 use Rattle.insn_locator.specs.Locate.{Tables, Answered, slotAt, answered, consTo, andThen, locateFrom, locateAll, answersFrom, locateOut}
 use Rattle.insn_locator.specs.Steps.{stored}
 
@@ -55,14 +56,14 @@ module _ (s : List ℕ) (T : Tables) (entries : List ℕ) (room further : ℕ) w
     locate-room h = rw (fits, lt-leb (length entries) room h)
 
     module _ (enough : length entries ≤ room) where
-      pub locate-further : further < length (T .starts) → locateOut s T entries room further ≡ refused 4
+      pub locate-further : further < pairCount (T .starts) → locateOut s T entries room further ≡ refused 4
       unfolding locateOut
-      locate-further h = rw (fits, le-leb (length entries) room enough, lt-leb (length (T .starts)) further h)
+      locate-further h = rw (fits, le-leb (length entries) room enough, lt-leb (pairCount (T .starts)) further h)
 
-      module _ (known : length (T .starts) ≤ further) (last : List ℕ) (none-yet : last ≡ zeros (length (T .starts))) where
+      module _ (known : pairCount (T .starts) ≤ further) (last : List ℕ) (none-yet : last ≡ zeros (pairCount (T .starts))) where
         locate-run : (q : Option (List ℕ)) → locateFrom s T last entries ≡ q → locateOut s T entries room further ≡ answersFrom q
         unfolding locateOut locateAll
-        locate-run q e = rw (fits, le-leb (length entries) room enough, le-leb (length (T .starts)) further known, ← none-yet, e)
+        locate-run q e = rw (fits, le-leb (length entries) room enough, le-leb (pairCount (T .starts)) further known, ← none-yet, e)
 
         fault-by : (out : List ℕ) (q : Option (List ℕ)) → locateFrom s T last entries ≡ q → none ≡ stored out 0 q
             → locateOut s T entries room further ≡ refused 15

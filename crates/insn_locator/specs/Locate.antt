@@ -8,7 +8,7 @@ use lib.ListN.{length, getD, set, replicate}
 use lib.Dec.{ltb, leb, eqb}
 use Rattle.refusal.specs.Refusals.{tooLarge}
 use Rattle.refusal.specs.Outcomes.{Outcome, refused, success}
-use Rattle.start_words.specs.Starts.{startCount, hasStart, startOf}
+use Rattle.start_words.specs.Starts.{pairCount, Pair, pairOf}
 use Rattle.code_table.specs.Slots.{shared, shareAt}
 use Rattle.insn_locator.specs.Walk.{lands}
 
@@ -33,21 +33,26 @@ pub record Answered : Type 0 where
   pub answer : ℕ
   pub last : List ℕ
 
--- where the walk of method m begins: its last confirmed offset, else its start
-abbrev pub fromOf : List ℕ → List ℕ → ℕ → ℕ
-fromOf starts last m = cond (eqb (getD last m 0) 0) (startOf starts m) (getD last m 0)
+-- where the walk of a method begins: its last confirmed offset, else its start
+abbrev pub fromOf : ℕ → ℕ → ℕ
+fromOf start confirmed = cond (eqb confirmed 0) start confirmed
 
--- the slot word is v, and its first method m: a start of 0 confirms nothing
-abbrev pub tried : List ℕ → List ℕ → List ℕ → ℕ → ℕ → ℕ → Answered
-tried s starts last v m t =
-    cond (ltb 0 (fromOf starts last m) && lands s (fromOf starts last m) t)
+-- the slot word is v, and its first method m: a start of 0 confirms nothing, and at the end of its array or past it nothing is confirmed
+abbrev pub tried : List ℕ → Pair → List ℕ → ℕ → ℕ → ℕ → Answered
+tried s p last v m t =
+    cond (ltb t (p .end) && (ltb 0 (fromOf (p .start) (getD last m 0)) && lands s (fromOf (p .start) (getD last m 0)) t))
     (record { answer = v; last = set last m t })
     (record { answer = 0; last = last })
 
--- no first method, or one without a start word: 15
+-- a first method without both start words: 15
+abbrev pub triedBy : List ℕ → List ℕ → ℕ → ℕ → ℕ → Option Pair → Option Answered
+triedBy s last v m t none = none
+triedBy s last v m t (some p) = some (tried s p last v m t)
+
+-- no first method: 15
 abbrev pub answeredBy : List ℕ → List ℕ → List ℕ → ℕ → ℕ → Option ℕ → Option Answered
 answeredBy s starts last v t none = none
-answeredBy s starts last v t (some m) = cond (hasStart starts m) (some (tried s starts last v m t)) none
+answeredBy s starts last v t (some m) = triedBy s last v m t (pairOf starts m)
 
 abbrev pub answered : List ℕ → Tables → List ℕ → ℕ → ℕ → Option Answered
 answered s T last t v = cond (eqb v 0) (some (record { answer = 0; last = last })) (answeredBy s (T .starts) last v t (firstOf (T .shares) v))
@@ -71,7 +76,7 @@ locateFrom s T last (t ∷ ts) = andThen (answeredAt s T last t) (λ l. locateFr
 
 -- every last confirmed offset is 0 at first
 unfoldable pub locateAll : List ℕ → Tables → List ℕ → Option (List ℕ)
-locateAll s T ts = locateFrom s T (replicate (startCount (T .starts)) 0) ts
+locateAll s T ts = locateFrom s T (replicate (pairCount (T .starts)) 0) ts
 
 abbrev pub answersFrom : Option (List ℕ) → Outcome
 answersFrom none = refused 15
@@ -81,4 +86,4 @@ answersFrom (some l) = success l
 unfoldable pub locateOut : List ℕ → Tables → List ℕ → ℕ → ℕ → Outcome
 locateOut s T entries room further =
     cond (tooLarge (length s)) (refused 1)
-    (cond (leb (length entries) room && leb (startCount (T .starts)) further) (answersFrom (locateAll s T entries)) (refused 4))
+    (cond (leb (length entries) room && leb (pairCount (T .starts)) further) (answersFrom (locateAll s T entries)) (refused 4))

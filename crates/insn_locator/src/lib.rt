@@ -1,10 +1,11 @@
-// Confirms entries (`insn_verify` and `locate` of insn_locator.rs): an entry is confirmed where a walk over instructions and payloads, from its
-// method's start or from that method's last confirmed entry, lands on it exactly.
+// Confirms entries (`insn_verify` and `locate` of insn_locator.rs): an entry is confirmed where it lies before its method's end and a walk over
+// instructions and payloads, from that method's start or its last confirmed entry, lands on it exactly.
 mod walk; // walk.rt: the walk over instructions and payloads, and its step
 
 ghost use mathlib.Core.Path.{_≡_};
 ghost use Prim.Native.Nat.{_<_, _≤_};
 ghost use lib.ListN.{length};
+ghost use Rattle.start_words.specs.Starts.{pair};
 ghost use Rattle.insn_locator.specs.Answers.{tables, entryOf, locateWords, Located};
 ghost use Rattle.insn_locator.specs.Locate.{slotAt, firstOf, fromOf, tried, answeredAt, locateFrom, locateOut};
 ghost use Rattle.insn_locator.specs.Steps.{firstValue, stored, ranTo};
@@ -48,23 +49,22 @@ fn first_of(shares: &[u32], slot: u32) -> First
 }
 
 // Where the walk of a method begins: its last confirmed offset, else its start.
-fn from_of(starts: &[u32], last: &[u32], m: usize) -> u32
-    ensures { λ r. ⌜ r ≡ fromOf (now (starts .entry)) (now (last .entry)) m ⌝ }
+fn from_of(start: u32, confirmed: u32) -> u32
+    ensures { λ r. ⌜ r ≡ fromOf start confirmed ⌝ }
 {
-    let confirmed = words::word_at(last, m);
-    if confirmed != 0 {
-        return confirmed;
-    }
-    start_words::start(starts, m)
+    if confirmed == 0 { start } else { confirmed }
 }
 
-// The answer of an entry whose slot is not free: its method's last confirmed offset is noted.
-fn confirm(buf: &[u8], starts: &[u32], slot: u32, m: usize, off: u32, last: &mut [u32]) -> u32
+// The answer of an entry whose slot is not free: its method's last confirmed offset is noted. Past the method nothing is walked.
+fn confirm(buf: &[u8], start: u32, end: u32, slot: u32, m: usize, off: u32, last: &mut [u32]) -> u32
     ensures { λ r.
         let before = now (last .entry) in
-        ⌜ record { answer = r; last = now (last .exit) } ≡ tried (now (buf .entry)) (now (starts .entry)) before slot m off ⌝ }
+        ⌜ record { answer = r; last = now (last .exit) } ≡ tried (now (buf .entry)) (pair start end) before slot m off ⌝ }
 {
-    let from = from_of(starts, last, m);
+    if end <= off {
+        return 0;
+    }
+    let from = from_of(start, words::word_at(last, m));
     if from == 0 {
         return 0;
     }
@@ -98,10 +98,10 @@ pub fn locate_one(
         return Entry::Fault;
     };
     let m = first as usize;
-    if start_words::has_start(starts, m) {
-        return Entry::Word(confirm(buf, starts, slot, m, off, last));
-    }
-    Entry::Fault
+    let start_words::ReadPair::Both { start, end } = start_words::pair(starts, m) else {
+        return Entry::Fault;
+    };
+    Entry::Word(confirm(buf, start, end, slot, m, off, last))
 }
 
 // The answers of the entries, one after another; false where a table does not hold what one needs.

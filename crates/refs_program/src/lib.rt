@@ -127,7 +127,7 @@ fn print_answer(
     }
 }
 
-// Eight slices are lent, of 4,096 words each.
+// Eight slices are lent, of 4,096 words each: start words for 2,048 methods.
 fn search(file: &[u8], header: DexHeader, kind: u32, wanted: &[u32]) {
     let mut starts = [0u32; 4096];
     let mut triples = [0u32; 4096];

@@ -11,6 +11,7 @@ use lib.ListN.{length}
 use lib.Dec.{leb}
 use borrow.Author.Tests.{le-leb}
 use Rattle.refusal.specs.Refusals.{tooLarge}
+use Rattle.start_words.specs.Starts.{pairsIn}
 use Rattle.tinydex.specs.declared.DexHeader.{DexHeader}
 use Rattle.class_data.specs.Walk.{Walk}
 use Rattle.class_data.specs.Walk.Walk.{refused, found}
@@ -50,11 +51,11 @@ unfolding buildOut
 build-more s h room room′ L =
     let n : Build → ℕ = λ B. B .number in
     same-else n (tooLarge (length s)) (noBuild 1) _ _
-    (room-then n (leb (h .methods .size) (room .starts)) (leb (h .methods .size) (room′ .starts)) _ _ (noBuild 4) (λ z. omega arith)
-    (more-leb (h .methods .size) (room .starts) (room′ .starts) (L .starts)) (from-more (length s) (h .methods .size) room room′ L (codesOf s h)))
+    (room-then n (leb (h .methods .size) (pairsIn (room .starts))) (leb (h .methods .size) (pairsIn (room′ .starts))) _ _ (noBuild 4) (λ z. omega arith)
+    (more-leb (h .methods .size) (pairsIn (room .starts)) (pairsIn (room′ .starts)) (omega (arith, L .starts))) (from-more (length s) (h .methods .size) room room′ L (codesOf s h)))
 
 -- ---- what suffices
-module _ (s : List ℕ) (h : DexHeader) (room : Room) (a : h .methods .size ≤ room .starts) (b : length s / 16 ≤ room .slots) where
+module _ (s : List ℕ) (h : DexHeader) (room : Room) (a : 2 * h .methods .size ≤ room .starts) (b : length s / 16 ≤ room .slots) where
   from-enough : (w : Walk) → w ≡ codesOf s h → Reasoned w → 3 * codesFound w ≤ room .triples → 3 * codesFound w ≤ room .shares → codesFound w ≤ 2 ^ 31
       → builtFrom (length s) (h .methods .size) room w .number ≢ 4
   from-enough (refused r) q n c d e = never-short n
@@ -73,4 +74,4 @@ module _ (s : List ℕ) (h : DexHeader) (room : Room) (a : h .methods .size ≤ 
   unfolding buildOut
   build-enough c d e =
       neither (λ (B : Build). B .number) (tooLarge (length s)) (noBuild 1) _ (λ z. omega arith)
-      (rw (le-leb (h .methods .size) (room .starts) a) (from-enough (codesOf s h) refl (codes-reason s h) c d e))
+      (rw (le-leb (h .methods .size) (pairsIn (room .starts)) (omega arith)) (from-enough (codesOf s h) refl (codes-reason s h) c d e))

@@ -16,6 +16,7 @@ use Rattle.words.proofs.Padded.{padded-at}
 use Rattle.words.proofs.Shared.{case}
 use Rattle.refusal.specs.Refusals.{tooLarge}
 use Rattle.refusal.specs.Outcomes.{Outcome, refused}
+use Rattle.start_words.specs.Starts.{pairCount}
 use Rattle.tinydex.specs.declared.DexHeader.{DexHeader}
 use Rattle.code_item_scan.specs.Scan.{Hit, offs, Asked, asked, Scan, scanOut}
 use Rattle.code_table.specs.Slots.{shared, shareAt}
@@ -112,8 +113,8 @@ module _ (s : List ℕ) (base : ℕ) (starts : List ℕ) {xs xs′ ws ws′ : Li
   tables-more entries answers further =
       let n : Outcome → ℕ = λ o. o .number in
       same-else n (tooLarge (length s)) (refused 1) _ _
-      (same-then n (leb (length entries) answers && leb (length starts) further) _ _ (refused 4)
-      (answers-kept (locateAll s T entries) (locateAll s T′ entries) (from-kept entries (replicate (length starts) 0))))
+      (same-then n (leb (length entries) answers && leb (pairCount starts) further) _ _ (refused 4)
+      (answers-kept (locateAll s T entries) (locateAll s T′ entries) (from-kept entries (replicate (pairCount starts) 0))))
 
 -- ---- words with more zeros after them
 padded-same : (n n′ : ℕ) (xs : List ℕ) (i : ℕ) → getD (padded n xs) i 0 ≡ getD (padded n′ xs) i 0

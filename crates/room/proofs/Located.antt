@@ -14,6 +14,7 @@ use borrow.Author.Tests.{le-leb, leb-true, ltb-true}
 use Rattle.words.proofs.Shared.{case, cond-elim, and-right}
 use Rattle.refusal.specs.Refusals.{tooLarge}
 use Rattle.refusal.specs.Outcomes.{Outcome, refused, success}
+use Rattle.start_words.specs.Starts.{pairCount}
 use Rattle.dalvik.specs.Instructions.{Kind}
 use Rattle.kinds.specs.Kinds.{kindOf}
 use Rattle.code_item_scan.specs.Scan.{Hit, hitsOf, Asked, HitRoom, Scan, noScan, scanned, scannedAs, scanOut}
@@ -80,18 +81,18 @@ unfolding locateOut
 locate-more s T entries {answers} {further} {answers′} {further′} a b =
     let n : Outcome → ℕ = λ o. o .number in
     let k : ℕ = length entries in
-    let m : ℕ = length (T .starts) in
+    let m : ℕ = pairCount (T .starts) in
     same-else n (tooLarge (length s)) (refused 1) _ _
     (room-then n (leb k answers && leb m further) (leb k answers′ && leb m further′) _ _ (refused 4) (λ z. omega arith)
     (more-both (leb k answers) (leb m further) (leb k answers′) (leb m further′) (more-leb k answers answers′ a) (more-leb m further further′ b))
     (λ z. refl))
 
-pub locate-enough : (s : List ℕ) (T : Tables) (entries : List ℕ) (answers further : ℕ) → length entries ≤ answers → length (T .starts) ≤ further
+pub locate-enough : (s : List ℕ) (T : Tables) (entries : List ℕ) (answers further : ℕ) → length entries ≤ answers → pairCount (T .starts) ≤ further
     → locateOut s T entries answers further .number ≢ 4
 unfolding locateOut
 locate-enough s T entries answers further a b =
     neither (λ (o : Outcome). o .number) (tooLarge (length s)) (refused 1) _ (λ z. omega arith)
-    (rw (le-leb (length entries) answers a, le-leb (length (T .starts)) further b) (answers-not (locateAll s T entries)))
+    (rw (le-leb (length entries) answers a, le-leb (pairCount (T .starts)) further b) (answers-not (locateAll s T entries)))
 
 -- ---- listing
 pub list-more : (shares : List ℕ) (slot room room′ : ℕ) → room ≤ room′ → listOut shares slot room .number ≡ 0

@@ -49,9 +49,9 @@ methodsFound h = h .methods .size
 abbrev pub namesKept : List ℕ → ℕ
 namesKept given = length given
 
--- code table: start words; slots, in a file of n bytes; and three words of triples and of shares for each code found
+-- code table: two start words for each method; slots, in a file of n bytes; and three words of triples and of shares for each code found
 abbrev pub startWords : DexHeader → ℕ
-startWords h = h .methods .size
+startWords h = 2 * h .methods .size
 
 abbrev pub slotWords : ℕ → ℕ
 slotWords n = n / 16
@@ -61,12 +61,12 @@ codeWords codes = 3 * codes
 
 -- scan for a kind, in a file of n bytes: the offsets, and the indices beside them, `mostEntries kind n` of crate completeness
 
--- locate: an answer for each entry, and a further word for each start word
+-- locate: an answer for each entry, and a further word for each pair of start words
 abbrev pub answerWords : List ℕ → ℕ
 answerWords entries = length entries
 
 abbrev pub furtherWords : List ℕ → ℕ
-furtherWords starts = length starts
+furtherWords starts = length starts / 2
 
 -- listing a slot: one method more than there are shares
 abbrev pub listedWords : List ℕ → ℕ

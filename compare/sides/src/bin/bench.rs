@@ -44,12 +44,12 @@ fn fitted(mut case: Case, number: usize) -> (Side, usize, Buffers) {
     match case.op {
         TYPE_GROUPS => case.lent[0] = case.strings().size + 1,
         METHOD_GROUPS => (case.lent[0], case.lent[2]) = (case.types().size + 1, case.strings().size + 1),
-        CODE_TABLE => case.lent[0] = case.methods().size,
+        CODE_TABLE => case.lent[0] = 2 * case.methods().size,
         // The strings and types in between: as many as there are.
         TYPE_SEARCH => case.lent[0] = case.keys.len() as u32,
         METHOD_SEARCH => (case.lent[0], case.lent[1]) = (case.keys.len() as u32, case.lists[1].len() as u32),
         SCAN => case.lent[..2].fill(answer.numbers[0] as u32),
-        LOCATE => (case.lent[0], case.lent[1]) = (case.lists[1].len() as u32, case.lists[3].len() as u32),
+        LOCATE => (case.lent[0], case.lent[1]) = (case.lists[1].len() as u32 / 2, case.lists[3].len() as u32),
         _ => {}
     }
     let mut filled = Buffers::of(&case);
@@ -252,7 +252,7 @@ fn items(file: Vec<u8>) -> Vec<Item> {
     // ---- all in one
     for kind in [1, 4] {
         let wanted = indices(kind)[..1].to_vec();
-        let lens = [starts.len(), table.outs[1].len(), slots.len(), shares.len(), 4096, 4096, starts.len(), 4096];
+        let lens = [starts.len(), table.outs[1].len(), slots.len(), shares.len(), 4096, 4096, starts.len() / 2, 4096];
         let mut lent = lens.map(|n| vec![0u32; n]);
         let header = d.numbers;
         let w = wanted.clone();
@@ -349,7 +349,7 @@ fn uses(file: &str, kind: &str, index: u32) {
     let d = Dex::of_file(std::fs::read(file).expect(file));
     let methods = d.numbers[9] as usize;
     let blocks = d.file.len() / 16 + 1;
-    let mut lent = [methods, 3 * methods, blocks, 3 * methods, 65536, 65536, methods, 65536].map(|n| vec![0u32; n]);
+    let mut lent = [2 * methods, 3 * methods, blocks, 3 * methods, 65536, 65536, methods, 65536].map(|n| vec![0u32; n]);
     let (refusal, out) = ours::find(&d.file, &d.numbers, kind, &[index], &mut lent);
     assert_eq!(refusal, 0);
     let mut list = vec![0; methods];

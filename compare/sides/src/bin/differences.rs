@@ -71,13 +71,18 @@ fn names(text: &[u8], query: &str) -> Case {
     })
 }
 
-/// One method whose walk begins at 2 in this file, and one entry.
-fn walk(file: &[u8], entry: u32) -> Case {
+/// Entries of one method in this file, whose start words are these.
+fn array(file: &[u8], starts: &[u32], entries: &[u32]) -> Case {
     with(LOCATE, |c| {
         c.file = file.to_vec();
-        c.lists = [vec![1], vec![2], vec![], vec![entry]];
-        c.lent[..2].fill(1);
+        c.lists = [vec![1], starts.to_vec(), vec![], entries.to_vec()];
+        c.lent[..2].copy_from_slice(&[1, entries.len() as u32]);
     })
+}
+
+/// One method whose walk begins at 2 in this file, and one entry before its end.
+fn walk(file: &[u8], entry: u32) -> Case {
+    array(file, &[2, entry + 2], &[entry])
 }
 
 fn main() {
@@ -126,7 +131,7 @@ fn main() {
             let mut c = code(62, 1);
             c.file[32..42].copy_from_slice(&[0, 0, 1, 0, 0x80, 0x80, 0x80, 0x08, 0, 44]);
             c.numbers[9] = 16_777_217;
-            c.lent[0] = 16_777_217;
+            c.lent[0] = 2 * 16_777_217;
             c
         }),
         ("code table, an index sum of 2^32", Answers, 7, class_data(46, &[0, 0, 2, 0, 255, 255, 255, 255, 15, 0, 0, 1, 0, 0])),
@@ -147,9 +152,11 @@ fn main() {
             c.numbers[13] = 1;
             c
         }),
-        ("locate, no further word", Answers, 4, with(LOCATE, |c| c.lists[1] = vec![0])),
+        ("locate, no further word", Answers, 4, with(LOCATE, |c| c.lists[1] = vec![0, 0])),
         ("locate, a share outside", Panics, 15, with(LOCATE, |c| (c.lists[0], c.lists[3], c.lent[1]) = (vec![1 << 31], vec![0], 1))),
-        ("locate, a first method without a start word", Panics, 15, with(LOCATE, |c| (c.lists[0], c.lists[3], c.lent[1]) = (vec![1], vec![0], 1))),
+        ("locate, a first method without start words", Panics, 15, array(&[], &[], &[0])),
+        ("locate, an entry at the end of its array", Answers, 0, array(&[0; 6], &[2, 4], &[4])),
+        ("locate, the same and then one in the array", Answers, 0, array(&[0; 6], &[2, 4], &[4, 2])),
         ("locate, an entry within a payload", Answers, 0, walk(&[0, 0, 0, 2, 0, 0], 4)),
         ("locate, an entry after a payload", Answers, 0, walk(&[0, 0, 0, 3, 0x73, 0, 0, 0, 0, 0], 10)),
         ("locate, an entry after the header of a payload that is not inside", Answers, 0, walk(&[0, 0, 0, 2, 1, 0], 6)),

@@ -2,7 +2,7 @@
 //! Usage: replay FOLDER SAMPLE; writes FOLDER/data/cases and FOLDER/stdout.
 
 use sides::case::*;
-use sides::inputs::{payloads, Inputs};
+use sides::inputs::{array_ends, payloads, Inputs};
 use sides::{expected, silence, Expected};
 use std::collections::HashSet;
 use std::fs;
@@ -15,8 +15,10 @@ const DOMAIN: usize = 240;
 const EACH_REFUSAL: usize = 12;
 const BYTES: usize = 68_000;
 
-/// Of locate's cases with payloads that every run has, one in so many; they come before, and don't count towards the others.
-const PAYLOADS: usize = 101;
+/// Of the cases that every run has, one in so many of locate's with payloads, and of those around the ends of arrays; they come before, and
+/// don't count towards the others.
+const PAYLOADS: usize = 201;
+const ENDS: usize = 53;
 
 /// One more than the greatest refusal.
 const REFUSALS: usize = 17;
@@ -31,9 +33,12 @@ fn main() {
         let (mut domain, mut answered, mut refusals) = (0, 0, [0; REFUSALS]);
         let mut seen: HashSet<String> = HashSet::new();
         let mut bytes = 0;
-        let given = if op == LOCATE { payloads(op) } else { vec![] };
-        for case in given.iter().step_by(PAYLOADS).filter(|c| replay_takes(c)) {
-            let (Expected::Domain(o) | Expected::Off(o)) = expected(case) else { panic!("the Rust differs from SPEC: see run --op locate") };
+        let payloads = if op == LOCATE { payloads(op) } else { vec![] };
+        let ends = if matches!(op, CODE_TABLE | LOCATE) { array_ends(op) } else { vec![] };
+        for case in payloads.iter().step_by(PAYLOADS).chain(ends.iter().step_by(ENDS)).filter(|c| replay_takes(c)) {
+            let (Expected::Domain(o) | Expected::Off(o)) = expected(case) else {
+                panic!("the Rust differs from SPEC: see run --op {}", OPS[op as usize - 1])
+            };
             case.write(&mut cases);
             lines += &o.line(op);
             lines.push('\n');

@@ -5,6 +5,7 @@ use Rattle.class_data.proofs.Gives.{codes-large, codes-short, codes-ove
 use Rattle.class_data.specs.Stored.{CodeWords, codeWords}
 use Rattle.refusal.specs.Refusals.{tooLarge}
 use Rattle.words.proofs.Shared.{met}
+use Rattle.start_words.specs.Starts.{pairCount}
 use borrow.Author.Tests.{ltb-false}
 use lib.ListN.{length}
 use mathlib.Core.Bool.{false}
@@ -37,7 +38,7 @@ at-entry c =
 small : (c : tie.After-clear2) → tooLarge (length (at-entry c .args .buf .now)) ≡ false
 small c = met (at-else1 c .before .too-large .ensures) (at-else1 c .if1 .left)
 
-enough : (c : tie.After-clear2) → at-entry c .args .header .methods .size ≤ length (at-entry c .args .starts .now)
+enough : (c : tie.After-clear2) → at-entry c .args .header .methods .size ≤ pairCount (at-entry c .args .starts .now)
 enough c = omega (arith, at-else2 c .if2 .left, at-else2 c .before .before .count .ensures)
 
 too-large-requires : tie.Need-too-large-requires

@@ -1,6 +1,7 @@
 -- The refusals come in their order, and the run starts from words that are zero.
 -- Assumes nothing.
 use Rattle.words.specs.Padded.{zeros}
+use Rattle.start_words.specs.Starts.{pairCount}
 use lib.ListN.{take, drop, length-append, length-drop}
 use mathlib.Core.List.{_++_}
 use Prim.Native.Nat.{_≤_}
@@ -127,7 +128,7 @@ returns-4 c =
     let a = start .args in
     let T = tables (a .base) (a .slots .now) (a .starts .now) (a .shares .now) in
     let n = at-count .count .result in
-    let same : n ≡ length (a .starts .now) = at-count .count .ensures in
+    let same : n ≡ pairCount (a .starts .now) = at-count .count .ensures in
     let run = at-locate-list .locate-list in
     let cleared = at-clear2 .clear2 in
     let unset = at-clear .clear in
@@ -168,7 +169,7 @@ returns-5 c =
     let a = start .args in
     let T = tables (a .base) (a .slots .now) (a .starts .now) (a .shares .now) in
     let n = at-count .count .result in
-    let same : n ≡ length (a .starts .now) = at-count .count .ensures in
+    let same : n ≡ pairCount (a .starts .now) = at-count .count .ensures in
     let run = at-locate-list .locate-list in
     let cleared = at-clear2 .clear2 in
     let unset = at-clear .clear in

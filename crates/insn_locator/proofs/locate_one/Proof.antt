@@ -3,7 +3,8 @@
 use Rattle.insn_locator.proofs.Tables.{entry-free, entry-missing, entry-unknown, entry-tried}
 use Rattle.insn_locator.specs.Answers.{tables}
 use Rattle.insn_locator.specs.Steps.{firstValue}
-use Rattle.words.proofs.Shared.{met}
+use Rattle.start_words.specs.Starts.{pair}
+use Rattle.start_words.specs.Read.{pairRead}
 use native.Mathlib.Omega.{arith}
 use mathlib.Core.Path.{ap, sym, _∙_}
 use borrow.Author.Needs.{needs}
@@ -40,31 +41,19 @@ returns-2 c =
 cast-m : tie.Need-cast-m
 cast-m c = search needs
 
-has-start-requires : tie.Need-has-start-requires
-has-start-requires c κs = search needs
+pair-requires : tie.Need-pair-requires
+pair-requires c κs = search needs
 
-confirm-requires : tie.Need-confirm-requires
-confirm-requires c κs = search needs
+enum-known-start : tie.Need-enum-known-start
+enum-known-start c = search needs
 
-same-length : tie.Need-same-length
-same-length c = search needs
+enum-told-2 : tie.Need-enum-told-2
+enum-told-2 c = search needs
 
 returns-3 : tie.Need-returns-3
 returns-3 c =
-    let at-has-start = c .before .before .before .before .before in
-    let at-first = at-has-start .before .before in
-    let at-first-of = at-first .before .before in
-    let at-slot-at = at-first-of .before .before in
-    let start = at-slot-at .before .before .before .before .before .before in
-    let a = start .args in
-    let T = tables (a .base) (a .slots .now) (a .starts .now) (a .shares .now) in
-    entry-tried (a .buf .now) T (a .last .now) (a .off) _ (at-slot-at .slot-at .ensures) _ _ (omega arith)
-    (ap firstValue (sym (at-first .first .given .1)) ∙ at-first-of .first-of .ensures)
-    (met (at-has-start .has-start .ensures) (c .before .before .before .before .if2 .taken)) (c .before .before .confirm .ensures)
-
-returns-4 : tie.Need-returns-4
-returns-4 c =
-    let at-first = c .before .before .before in
+    let at-pair = c .before .before in
+    let at-first = at-pair .before .before in
     let at-first-of = at-first .before .before in
     let at-slot-at = at-first-of .before .before in
     let start = at-slot-at .before .before .before .before .before .before in
@@ -72,7 +61,27 @@ returns-4 c =
     let T = tables (a .base) (a .slots .now) (a .starts .now) (a .shares .now) in
     entry-unknown (a .buf .now) T (a .last .now) (a .off) _ (at-slot-at .slot-at .ensures) _ (omega arith)
     (ap firstValue (sym (at-first .first .given .1)) ∙ at-first-of .first-of .ensures)
-    (met (c .before .has-start .ensures) (c .if2 .left))
+    (ap pairRead (sym (c .enum-told2 .given .1)) ∙ at-pair .pair .ensures)
+
+confirm-requires : tie.Need-confirm-requires
+confirm-requires c κs = search needs
+
+same-length : tie.Need-same-length
+same-length c = search needs
+
+returns-4 : tie.Need-returns-4
+returns-4 c =
+    let at-start = c .before .before .before .before .before in
+    let at-pair = at-start .before .before in
+    let at-first = at-pair .before .before in
+    let at-first-of = at-first .before .before in
+    let at-slot-at = at-first-of .before .before in
+    let start = at-slot-at .before .before .before .before .before .before in
+    let a = start .args in
+    let T = tables (a .base) (a .slots .now) (a .starts .now) (a .shares .now) in
+    entry-tried (a .buf .now) T (a .last .now) (a .off) _ (at-slot-at .slot-at .ensures) _ _ _ (omega arith)
+    (ap firstValue (sym (at-first .first .given .1)) ∙ at-first-of .first-of .ensures)
+    (ap pairRead (sym (at-start .start .given .1)) ∙ at-pair .pair .ensures) (c .before .before .confirm .ensures)
 
 pub locate-one-spec : {M : Type 1} → statement M
 locate-one-spec =
@@ -85,8 +94,10 @@ locate-one-spec =
     enum-told
     returns-2
     cast-m
-    has-start-requires
+    pair-requires
+    enum-known-start
+    enum-told-2
+    returns-3
     confirm-requires
     same-length
-    returns-3
     returns-4)

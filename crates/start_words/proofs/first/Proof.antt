@@ -9,8 +9,13 @@ use borrow.Author.Needs.{needs}
 use Rattle.start_words.proofs.first.Statement.{statement}
 use Rattle.start_words.proofs.first.Tie as tie
 
+mul-k : tie.Need-mul-k
+mul-k c = search needs
+
 returns : tie.Need-returns
-returns c = sym (first-all (c .before .args .n) (c .before .args .starts .now) (omega arith))
+returns c =
+    let a = c .before .args in
+    sym (first-all (a .n) (a .starts .now) (omega arith))
 
 slice-aggregate-result : tie.Need-slice-aggregate-result
 slice-aggregate-result c = simp length-take (omega arith)
@@ -20,4 +25,4 @@ unfolding firstStarts
 returns-2 c = search needs
 
 pub first-spec : {M : Type 1} → statement M
-first-spec = tie.close (tie.spec returns slice-aggregate-result returns-2)
+first-spec = tie.close (tie.spec mul-k returns slice-aggregate-result returns-2)
