@@ -262,7 +262,7 @@ pub fn within_ends(case: &Case, mut answer: Outcome) -> Outcome {
     for (word, &off) in answer.outs[answers].iter_mut().zip(&entries).filter(|(word, _)| **word != 0) {
         let slot = *word as u32;
         let first = if slot < 1 << 31 { slot - 1 } else { shares[3 * (slot - (1 << 31)) as usize] };
-        if document::pair(&starts, first).is_some_and(|(_, end)| off >= end) {
+        if starts.get(2 * first as usize + 1).is_some_and(|&end| off >= end) {
             *word = 0;
         }
     }

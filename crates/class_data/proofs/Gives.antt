@@ -11,9 +11,9 @@ use lib.Seq.{sets, sets-eq}
 use borrow.Author.Tests.{le-leb, lt-leb}
 use Rattle.words.specs.Padded.{zeros, padded}
 use Rattle.words.proofs.Padded.{padded-none, padded-front}
-use Rattle.start_words.specs.Starts.{pairsIn, pairCount, withArray, noStarts}
+use Rattle.start_words.specs.Starts.{pairsIn, pairCount, noStarts}
 use Rattle.start_words.proofs.Starts.{length-with, with-padded, count-none, none-padded}
-use Rattle.dalvik.specs.CodeItem.{Code, start, stop}
+use Rattle.dalvik.specs.CodeItem.{Code}
 use Rattle.refusal.specs.Refusals.{tooLarge}
 use Rattle.refusal.specs.declared.Refusal.{Refusal}
 use Rattle.refusal.specs.declared.Refusal.the-variants.{FileTooLarge, LentTooShort}
@@ -43,9 +43,8 @@ starts-padded : (s : List ℕ) (m n : ℕ) (ws : List ℕ) (cs : List Code) → 
 starts-padded s m n ws [] e a = refl
 starts-padded s m n ws (c ∷ cs) e a =
     let q : c .method < pairCount ws = omega (arith, a .0 .index) in
-    ap (λ (l : List ℕ). startsFrom l cs) (with-padded ws (c .method) (start c) (stop c) n q)
-    ∙ starts-padded s m n (withArray ws (c .method) (start c) (stop c)) cs
-    (ap pairsIn (length-with ws (c .method) (start c) (stop c)) ∙ e) (a .1)
+    ap (λ (l : List ℕ). startsFrom l cs) (with-padded ws (c .method) _ _ n q)
+    ∙ starts-padded s m n _ cs (ap pairsIn (length-with ws (c .method) _ _) ∙ e) (a .1)
 
 starts-zeros : (s : List ℕ) (m n : ℕ) (cs : List Code) → m ≤ pairsIn n → Each (CodeIn s m) cs → startsFrom (zeros n) cs ≡ padded n (startsOf m cs)
 unfolding startsOf

@@ -6,25 +6,20 @@ use mathlib.Core.Path.{_≡_, refl, _∙_}
 use mathlib.Core.List.{List, [], _∷_, List·Memᴰ, List·Memᴰ·head, List·Memᴰ·tail}
 use mathlib.Core.Option.{some}
 use lib.ListN.{length}
-use Rattle.start_words.specs.Starts.{pairCount, Pair, pair, pairOf, withArray, noStarts}
+use Rattle.start_words.specs.Starts.{pairCount, Pair, pair, pairOf, noStarts}
 use Rattle.start_words.proofs.Starts.{length-with, array-same, array-other, length-none}
 use Rattle.dalvik.specs.CodeItem.{Code, start, stop}
 use Rattle.class_data.specs.Stored.{startsFrom, startsOf}
 use Rattle.completeness.specs.Completeness.{Distinct, methodsOf}
 
--- the words with the code of c
-abbrev with-code : List ℕ → Code → List ℕ
-with-code ws c = withArray ws (c .method) (start c) (stop c)
-
 starts-length : (ws : List ℕ) (cs : List Code) → length (startsFrom ws cs) ≡ length ws
 starts-length ws [] = refl
-starts-length ws (c ∷ cs) = starts-length (with-code ws c) cs ∙ length-with ws (c .method) (start c) (stop c)
+starts-length ws (c ∷ cs) = starts-length _ cs ∙ length-with ws (c .method) _ _
 
 starts-other : (ws : List ℕ) (cs : List Code) (m : ℕ) → (List·Memᴰ m (methodsOf cs) → ⊥) → pairOf (startsFrom ws cs) m ≡ pairOf ws m
 starts-other ws [] m f = refl
 starts-other ws (c ∷ cs) m f =
-    starts-other (with-code ws c) cs m (λ k. f (List·Memᴰ·tail k))
-    ∙ array-other ws (c .method) (start c) (stop c) m (λ e. f (List·Memᴰ·head e))
+    starts-other _ cs m (λ k. f (List·Memᴰ·tail k)) ∙ array-other ws (c .method) _ _ m (λ e. f (List·Memᴰ·head e))
 
 -- where the array of c starts and ends
 abbrev pub arrayOf : Code → Pair
@@ -34,9 +29,9 @@ starts-mem : {c : Code} {cs : List Code} → List·Memᴰ c cs → Distinct (met
     → pairOf (startsFrom ws cs) (c .method) ≡ some (arrayOf c)
 unfolding Distinct
 starts-mem {c} (List·Memᴰ·head {x = d} {xs = cs} e) u ws h =
-    rw e (starts-other (with-code ws d) cs (d .method) (u .0) ∙ array-same ws (d .method) (start d) (stop d) (rw e at h))
+    rw e (starts-other _ cs (d .method) (u .0) ∙ array-same ws (d .method) _ _ (rw e at h))
 starts-mem {c} (List·Memᴰ·tail {x = d} {xs = cs} m) u ws h =
-    starts-mem m (u .1) (with-code ws d) (omega (arith, length-with ws (d .method) (start d) (stop d)))
+    starts-mem m (u .1) _ (rw (length-with ws (d .method) _ _) h)
 
 pub startsOf-length : (methods : ℕ) (cs : List Code) → length (startsOf methods cs) ≡ 2 * methods
 unfolding startsOf

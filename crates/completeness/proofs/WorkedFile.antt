@@ -110,7 +110,6 @@ module _ (s : List ℕ) where
       → (byte s 38 ≡ off) × (insns-size s off ≡ units) × (ltb 0 off ≡ true)
       → CodesOf s 0 0 1 (codesFrom off units 1 0)
   one-method off units a t b c =
-      let some : 0 < off = ltb-true 0 off (c .2) in
       let is : record { method = 0 + byte s 36; off = byte s 38; units = insns-size s (byte s 38) } ≡ codeOf off units 0 = rw (b .4, c .0, c .1) in
       let coded-one : EncodedMethods s 1 36 0 (codeOf off units 0 ∷ []) 39 =
       rw is at (coded {m = 0} 36 (t .4, t .5, t .6, rw (b .4), rw (c .0, c .2)) EncodedMethods.no-more) in

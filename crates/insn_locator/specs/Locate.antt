@@ -37,7 +37,7 @@ pub record Answered : Type 0 where
 abbrev pub fromOf : ℕ → ℕ → ℕ
 fromOf start confirmed = cond (eqb confirmed 0) start confirmed
 
--- the slot word is v, and its first method m: a start of 0 confirms nothing, and at the end of its array or past it nothing is confirmed
+-- the slot word is v, and its first method m, with the pair p: nothing is confirmed at the end of its array or past it, nor by a start of 0
 abbrev pub tried : List ℕ → Pair → List ℕ → ℕ → ℕ → ℕ → Answered
 tried s p last v m t =
     cond (ltb t (p .end) && (ltb 0 (fromOf (p .start) (getD last m 0)) && lands s (fromOf (p .start) (getD last m 0)) t))

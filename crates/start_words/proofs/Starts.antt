@@ -1,7 +1,7 @@
 -- Laws of start words, which open their definitions; nothing else does.
---     pair-inside                             who has a pair
+--     pair-there, pair-missing, pair-inside   a pair read
 --     first-all, first-padded                 those of the first methods
---     length-with, array-same, array-other    an array stored
+--     with-there, with-missing, length-with, array-same, array-other    an array stored
 --     pair-padded, with-padded                in a list with zeros after it
 --     length-none, count-none, none-padded    methods without code
 -- Assumes nothing.

@@ -3,7 +3,6 @@
 use Rattle.insn_locator.proofs.Tables.{entry-free, entry-missing, entry-unknown, entry-tried}
 use Rattle.insn_locator.specs.Answers.{tables}
 use Rattle.insn_locator.specs.Steps.{firstValue}
-use Rattle.start_words.specs.Starts.{pair}
 use Rattle.start_words.specs.Read.{pairRead}
 use native.Mathlib.Omega.{arith}
 use mathlib.Core.Path.{ap, sym, _∙_}
