@@ -215,7 +215,8 @@ uint32_t ringlinden_scan(const uint8_t *file, size_t file_len, uint32_t start, u
  * the first of its slot. base: the region's first block, *region_start / 16; slots, starts and shares as ringlinden_code_table gave them;
  * entries: ringlinden_scan's offsets. further: a word for each pair of start words, zero afterwards in every case; answers: *count words, one
  * for each entry. Refusals: 1; 4; 15, a share that is needed is outside the shares, or a first method that is needed has no pair: both its
- * words must be there, and an odd last start word counts for nothing.
+ * words must be there, and an odd last start word counts for nothing. With the tables that ringlinden_code_table gave for this file it is never 15.
+ * Entries that never fall, as ringlinden_scan's, are taken in linear time, and each has the answer that a list with it alone has.
  */
 uint32_t ringlinden_locate(const uint8_t *file, size_t file_len, uint32_t base, const uint32_t *slots, size_t slots_len,
                            const uint32_t *starts, size_t starts_len, const uint32_t *shares, size_t shares_len,
@@ -232,9 +233,10 @@ uint32_t ringlinden_list_slot(const uint32_t *shares, size_t shares_len, uint32_
 /*
  * Code table, scan of its region and locate in one. starts, triples, slots and shares as of ringlinden_code_table, offs and marks as of
  * ringlinden_scan, answers as of ringlinden_locate; further: a word for each method, however many start words are lent. *hits words of
- * offs, marks and answers are the result. Refusals: those of the three, in their order, but never 12. For a file as published and lent
+ * offs, marks and answers are the result. Refusals: those of the three, in their order, but never 12 or 15. For a file as published and lent
  * outputs that suffice the confirmed entries (answer not 0) are exactly the instructions that name a wanted index, none missing and none
- * invented: crates/findrefs has the statement.
+ * invented: crates/findrefs has the statement. For any file, an entry's answer does not depend on what else is wanted: the confirmed entries of two
+ * lists of indices together are those of each, merged by offset.
  */
 uint32_t ringlinden_find(const uint8_t *file, size_t file_len, const uint32_t header[13], uint32_t kind,
                          const uint32_t *wanted, size_t wanted_len, uint32_t *starts, size_t starts_len,

@@ -422,6 +422,9 @@ impl Inputs {
     }
 
     fn locate(&self, rng: &mut Rng) -> Case {
+        if rng.one_in(4) {
+            return many_misses(rng);
+        }
         let mut case = Case::new(LOCATE);
         let table = if !rng.one_in(3) {
             let d = self.dex(rng);
@@ -450,6 +453,11 @@ impl Inputs {
                 }
                 if rng.one_in(3) {
                     case.lists[3].push(rng.near(pair[1]));
+                }
+                // One offset after another, some left out, some several times: misses, most of them.
+                if rng.one_in(4) {
+                    let n = rng.below(40) as u32;
+                    case.lists[3].extend((pair[0]..pair[0] + n).flat_map(|at| vec![at; rng.of(&[0, 0, 1, 1, 1, 2, 3])]));
                 }
             }
             if !rng.one_in(4) {
@@ -515,6 +523,9 @@ impl Inputs {
     }
 
     fn find(&self, rng: &mut Rng) -> Case {
+        if rng.one_in(4) {
+            return many_uses(rng);
+        }
         let mut case = self.dex(rng).case(FIND);
         case.numbers[13] = if rng.one_in(40) { rng.of(&[0, 5, u32::MAX]) } else { 1 + rng.below(4) as u32 };
         let n = rng.below(5);
@@ -554,6 +565,99 @@ impl Inputs {
         case.numbers[13] = slot_word(rng, 20, n);
         case
     }
+}
+
+/// Up to three methods with many uses of one kind, of a few indices, among other instructions; two methods may have one code. By class
+/// definition: class data at 32, code from 64 on.
+fn many_uses(rng: &mut Rng) -> Case {
+    let mut case = Case::new(FIND);
+    case.file = vec![0; 64];
+    case.file[24] = 32;
+    let (kind, methods) = (1 + rng.below(4) as u32, 1 + rng.below(3));
+    let mut data = vec![0, 0, methods as u8, 0];
+    let mut code = 0;
+    for m in 0..methods {
+        if m == 0 || !rng.one_in(4) {
+            case.file.resize(case.file.len().next_multiple_of(4), 0);
+            code = case.file.len();
+            case.file.extend([0; 16]);
+            for _ in 0..2 + rng.below(14) {
+                if rng.one_in(4) {
+                    case.file.extend(instructions(rng));
+                    continue;
+                }
+                let (mut used, mut of) = rng.of(&USES);
+                while of != kind {
+                    (used, of) = rng.of(&USES);
+                }
+                let at = case.file.len();
+                case.file.extend(used);
+                case.file[at + 2] = rng.below(6) as u8;
+            }
+            let units = (case.file.len() - code - 16) / 2;
+            put(&mut case.file, code + 12, units as u32);
+        }
+        [(m > 0) as u64, 0, code as u64].iter().for_each(|&x| leb(&mut data, x));
+    }
+    case.file[32..32 + data.len()].copy_from_slice(&data);
+    if !rng.one_in(4) {
+        case.file.resize(case.file.len().next_multiple_of(16), 0);
+    }
+    (case.numbers[9], case.numbers[11], case.numbers[13]) = (methods as u32, 1, kind);
+    let n = rng.below(7);
+    case.lists[0] = rng.words(n, 6);
+    case
+}
+
+/// Whole instructions, now and then with payloads among them, and up to three methods over them, block by block. To locate are many offsets, some
+/// several times, of which most are misses. Most lists are nondecreasing.
+fn many_misses(rng: &mut Rng) -> Case {
+    let mut case = Case::new(LOCATE);
+    let from = rng.below(40);
+    case.file = vec![0; from];
+    for _ in 0..1 + rng.below(5) {
+        let more = if rng.one_in(4) { MISSED.repeat(1 + rng.below(12)) } else { instructions(rng) };
+        case.file.extend(more);
+    }
+    let n = case.file.len();
+    case.numbers[13] = (from / 16).saturating_sub(rng.below(2)) as u32;
+    let (methods, shares) = (1 + rng.below(3), rng.below(3));
+    for _ in 0..methods {
+        let mut start = from;
+        for _ in 0..rng.below(4) {
+            start = document::step(&case.file, start).unwrap_or(start);
+        }
+        let start = match rng.below(12) {
+            0 => 0,
+            1 => rng.below(n + 2),
+            2 | 3 => from + 1 + rng.below(3),
+            4..=6 => start,
+            _ => from,
+        } as u32;
+        let end = if rng.one_in(3) { some_end(rng, start, n) } else { n as u32 };
+        case.lists[1].extend([start, end]);
+    }
+    case.lists[2] = (0..shares).flat_map(|k| [rng.below(methods) as u32, rng.below(methods) as u32, rng.below(k + 1) as u32]).collect();
+    // A few words in turn.
+    let turn: Vec<u32> = (0..1 + rng.below(4))
+        .map(|_| if shares > 0 && rng.one_in(3) { (1 << 31) + rng.below(shares) as u32 } else { 1 + rng.below(methods) as u32 })
+        .collect();
+    case.lists[0] = turn.iter().copied().cycle().take(n / 16 + 2).collect();
+    if rng.one_in(4) {
+        let at = rng.below(case.lists[0].len());
+        case.lists[0][at] = 0;
+    }
+    let (first, more) = (rng.below(n - from) + from, rng.of(&[8, 24, 60]));
+    let times = if rng.one_in(2) { vec![0, 1] } else { vec![0, 0, 0, 0, 1, 1, 2, 3] };
+    let first = if rng.one_in(2) { from } else { first };
+    case.lists[3] = (first as u32..(first + more).min(n + 4) as u32).flat_map(|at| vec![at; rng.of(&times)]).collect();
+    let entries = case.lists[3].len();
+    match rng.below(10) {
+        0 => case.lists[3].reverse(),
+        1 if entries > 0 => case.lists[3].swap(rng.below(entries), rng.below(entries)),
+        _ => {}
+    }
+    case
 }
 
 /// The second word of a pair: most often somewhere after the start, now and then far off, 0, before the start or on it.
@@ -717,7 +821,8 @@ fn lend(case: &mut Case, rng: &mut Rng) {
 
 /// The cases of every run, however few it makes: a file of the greatest length and one of a byte more, which every operation
 /// refuses (1); a method index at its limit, and padded numbers in each place of class data; code at a file's end; payloads among
-/// instructions; uses after the end of an array; name filters around the sizes at which ours changes its tables, and above all of them.
+/// instructions; uses after the end of an array; lists that a walk goes through from entry to entry; several wanted indices for the finder; name
+/// filters around the sizes at which ours changes its tables, and above all of them.
 pub fn always(op: u32) -> Vec<Case> {
     let mut cases: Vec<Case> = [LARGEST, LARGEST + 1].into_iter().flat_map(|n| at_length(op, n)).collect();
     match op {
@@ -733,11 +838,13 @@ pub fn always(op: u32) -> Vec<Case> {
             cases.extend(code_at_the_end(op));
             cases.extend(payloads(op));
             cases.extend(array_ends(op));
+            cases.extend(wanted_together());
         }
         LOCATE => {
             cases.extend(payloads(op));
             cases.extend(greatest_payload());
             cases.extend(array_ends(op));
+            cases.extend(walks_that_go_on());
         }
         SCAN => {
             cases.push(great_indices());
@@ -1192,6 +1299,171 @@ fn codes_found(op: u32) -> Vec<Case> {
             _ => {}
         }
         cases.push(case);
+    }
+    cases
+}
+
+/// Instructions of one, two, three and five units, in this order: 2, 4, 6 and 10 bytes. Operands look like opcodes, or like nothing.
+const LENGTHS: [u8; 22] = [0x12, 0, 0x13, 0x1a, 0, 5, 0x1b, 0x73, 5, 0, 0x12, 0, 0x18, 0, 0x12, 0x1a, 0x73, 0, 0, 0, 5, 0];
+
+/// const/16. Where it stands again and again, a scan takes the byte after each opcode for a const-string, and no walk lands there.
+pub const MISSED: [u8; 4] = [0x13, 0x1a, 0, 5];
+
+/// Tables and a file for locate; the entries come after.
+fn over(file: &[u8], base: u32, slots: &[u32], starts: &[u32], shares: &[u32]) -> Case {
+    let mut case = Case::new(LOCATE);
+    case.file = file.to_vec();
+    case.numbers[13] = base;
+    case.lists[..3].clone_from_slice(&[slots.to_vec(), starts.to_vec(), shares.to_vec()]);
+    case.lent[0] = starts.len() as u32 / 2;
+    case
+}
+
+/// A nondecreasing list as it is, each entry two and three times, and one after another once, twice and three times; then those that fall: the
+/// whole list, each entry twice, the list and itself again, and with a single entry out of order, at the front, at the end or before its neighbour.
+fn rising_and_falling(case: &Case, entries: &[u32], cases: &mut Vec<Case>) {
+    let times = |n: &dyn Fn(usize) -> usize| entries.iter().enumerate().flat_map(|(i, &e)| vec![e; n(i)]).collect::<Vec<u32>>();
+    let mut lists = vec![entries.to_vec(), times(&|_| 2), times(&|_| 3), times(&|i| 1 + i % 3)];
+    lists.extend([times(&|_| 1), times(&|_| 2)].map(|list| list.into_iter().rev().collect::<Vec<u32>>()));
+    lists.push(entries.repeat(2));
+    for at in (0..entries.len()).step_by(1 + entries.len() / 3) {
+        for to in [0, at + 1, entries.len()] {
+            let mut list = entries.to_vec();
+            let one = list.remove(at);
+            list.insert(to.min(list.len()), one);
+            lists.push(list);
+        }
+    }
+    for list in lists {
+        let mut case = case.clone();
+        case.lent[1] = list.len() as u32;
+        case.lists[3] = list;
+        cases.push(case);
+    }
+}
+
+/// Rising lists over a stretch of offsets: all, the even, the odd, and others with more misses or fewer.
+fn some_of(from: u32, to: u32) -> Vec<Vec<u32>> {
+    let all = || from..to;
+    let mut rng = Rng::new(8, LOCATE, to as u64);
+    let mut lists = vec![
+        all().collect::<Vec<u32>>(),
+        all().filter(|at| at % 2 == 0).collect(),
+        // Misses, most of them, and then what may be a hit.
+        all().filter(|at| at % 2 == 1 || at + 4 > to).collect(),
+        all().filter(|at| at % 4 != 0).collect(),
+        all().filter(|at| at % 16 < 2 || at % 16 == 15).collect(),
+    ];
+    lists.extend([2, 3, 6].map(|n| all().filter(|_| rng.one_in(n)).collect::<Vec<u32>>()));
+    lists
+}
+
+/// Lists that a walk goes through from entry to entry: with misses between hits, in the middle of instructions and payloads; past a place that
+/// there is no step from; around the ends of arrays; and of several methods in turn. Code begins at 64.
+pub fn walks_that_go_on() -> Vec<Case> {
+    let before = [0; 64];
+    let share = 1 << 31;
+    let mut arrays: Vec<Vec<u8>> = vec![LENGTHS.repeat(4), MISSED.repeat(16)];
+    // A payload among instructions; its data are opcodes with a length.
+    for (high, width, size) in [(1, 0, 2), (2, 0, 2), (3, 1, 3), (3, 2, 4), (3, 0, 9)] {
+        arrays.push([&LENGTHS[..12], &payload(high, width, size, &[0x12]), &LENGTHS, &MISSED].concat());
+    }
+    // The walk gets stuck: at an opcode without length; at a payload that is cut, in its body or its header. Bytes follow, or none.
+    let cut = [&[0, 1, 0xff, 0xff][..], &[0, 2, 0xff, 0x7f], &[0, 3, 1, 0, 0xff, 0xff, 0xff, 0xff], &[0, 3, 1], &[0, 1], &[0]];
+    for stuck in [&[0x73, 0][..], &[0x3e, 0]].into_iter().chain(cut) {
+        arrays.push([&LENGTHS[..12], stuck].concat());
+        arrays.push([&LENGTHS[..12], stuck, &LENGTHS.repeat(2)].concat());
+    }
+    // The file ends within an instruction, so that the walk goes past its end.
+    arrays.extend([9, 13, 15, 21].map(|n| [&LENGTHS[..], &LENGTHS[..n]].concat()));
+    let mut cases = Vec::new();
+    for array in &arrays {
+        let file = [&before[..], array].concat();
+        let (end, blocks) = (file.len() as u32, file.len().div_ceil(16) + 1 - 4);
+        let in_turn = |words: &[u32]| words.iter().copied().cycle().take(blocks).collect::<Vec<u32>>();
+        // One method, from its start, from a place within its first instruction, and from one where only some walks come by; with its end, with one
+        // in the middle, and with none that matters.
+        let one = [64, 65, 66, 70].iter().flat_map(|&start| [end, 90, u32::MAX].map(|end| (in_turn(&[1]), vec![start, end], vec![])));
+        // Two and three methods, block by block, over the same bytes; some with no code, or with an end of their own. Two pairs of blocks in turn.
+        let turns = [&[1, 2][..], &[2, 1], &[1, 2, 3], &[1, 0, 2], &[1, 1, 2, 2], &[3, 1, 3, 2]];
+        let pairs = [[64, end, 64, end, 66, end], [64, end, 66, end, 65, end], [64, 82, 64, end, 0, 0], [76, end, 64, 100, 64, u32::MAX]];
+        let several = turns.iter().flat_map(|turn| pairs.map(|pairs| (in_turn(turn), pairs.to_vec(), vec![])));
+        // Shares whose first method is the same, and that method alone: they have one walk. And shares of two walks.
+        let shares = [[0, 1, 0, 0, 2, 1, 0, 2, 0], [0, 1, 0, 1, 0, 0, 0, 2, 1]];
+        let turns = [&[share, share + 1][..], &[1, share + 2, share], &[share + 1, 2, share]];
+        let shared = turns.iter().flat_map(|turn| shares.map(|s| (in_turn(turn), vec![64, end, 66, end, 64, 90], s.to_vec())));
+        for (slots, starts, shares) in one.chain(several).chain(shared) {
+            let case = over(&file, 4, &slots, &starts, &shares);
+            // From below the base to past the slots. All of these lists for one method, a few for several.
+            for list in some_of(62, end + 20).iter().step_by(if starts.len() == 2 { 1 } else { 3 }) {
+                rising_and_falling(&case, list, &mut cases);
+            }
+        }
+    }
+    cases.extend(far_entries());
+    cases
+}
+
+/// Entries and starts at 0, at the file's end and past it, and near 2^32.
+fn far_entries() -> Vec<Case> {
+    let file = LENGTHS.repeat(3);
+    let end = file.len() as u32;
+    let mut cases = Vec::new();
+    // The file's first block has a slot. A start of 0 is none; others are above some entries.
+    for start in [0, 1, 2, 6, 12, 22, end - 2, end - 1, end, end + 1, end + 2, end + 15, 0x8000_0000, u32::MAX] {
+        for stop in [0, 1, 30, end, end + 1, u32::MAX] {
+            for slots in [vec![1; 6], [1, 2].repeat(3)] {
+                let case = over(&file, 0, &slots, &[start, stop, 2, u32::MAX], &[]);
+                for list in [vec![0, 2, 6, 12, 22, 24], (0..end + 20).step_by(3).collect(), (0..9).chain(end - 3..end + 6).collect()] {
+                    rising_and_falling(&case, &list, &mut cases);
+                }
+            }
+        }
+    }
+    // Slots that cover the greatest offsets, and some that none has. Only an entry on the start itself is landed on.
+    let top = u32::MAX - 15;
+    let entries: Vec<u32> = [0, 2, end, 0x7fff_ffff, 0x8000_0000].into_iter().chain(top - 18..=u32::MAX).collect();
+    let last = top / 16;
+    for (base, slots) in [(last, vec![1]), (last, vec![2, 1]), (last - 1, vec![1, 2]), (last - 1, vec![2, 2, 1]), (u32::MAX, vec![1])] {
+        for start in [0, 2, end, top - 16, top - 1, top, top + 1, u32::MAX - 1, u32::MAX] {
+            for stop in [end, top, top + 1, u32::MAX - 1, u32::MAX] {
+                let case = over(&file, base, &slots, &[start, stop, top, u32::MAX], &[]);
+                rising_and_falling(&case, &entries, &mut cases);
+            }
+        }
+    }
+    cases
+}
+
+/// One method whose array has uses of the indices 5, 6 and 7, and bytes within others that look like uses; every list of up to three of
+/// these indices, some of them twice.
+fn wanted_together() -> Vec<Case> {
+    let mut cases = Vec::new();
+    for (used, kind) in USES {
+        let mut array = Vec::new();
+        for index in [5, 6, 5, 7, 7, 6] {
+            let at = array.len();
+            array.extend(used);
+            array[at + 2] = index;
+            // Of five units; the use within it is none.
+            array.extend([0x18, 0, used[0], used[1], index, 0, 0, 0, 0x12, 0]);
+        }
+        let mut case = Case::new(FIND);
+        case.file = vec![0; 64];
+        case.file[24] = 32;
+        case.file[32..39].copy_from_slice(&[0, 0, 1, 0, 0, 0, 48]);
+        put(&mut case.file, 60, array.len() as u32 / 2);
+        case.file.extend(&array);
+        let blocks = case.file.len().div_ceil(16) as u32 - 4;
+        (case.numbers[9], case.numbers[11], case.numbers[13]) = (1, 1, kind);
+        case.lent = [2, 3, blocks, 0, 16, 16, 1, 16];
+        // As many bytes more as there are ways to split a list.
+        for (wanted, more) in (0..40).map(|i| Digits(i).list(&[5, 6, 7], 3)).flat_map(|w| (0..3).map(move |more| (w.clone(), more))) {
+            let mut case = case.clone();
+            case.file.resize(case.file.len() + more, 0);
+            case.lists[0] = wanted;
+            cases.push(case);
+        }
     }
     cases
 }

@@ -1,5 +1,6 @@
 //! Ours and the Rust, side by side.
 
+pub mod alone;
 pub mod case;
 pub mod document;
 pub mod inputs;

@@ -2,7 +2,7 @@
 
 use sides::case::*;
 use sides::inputs::{self, Inputs};
-use sides::{expected, ours, shrink, silence, Expected};
+use sides::{alone, expected, ours, shrink, silence, Expected};
 use std::io::Write;
 use std::path::PathBuf;
 use std::sync::atomic::{AtomicU64, Ordering::Relaxed};
@@ -11,6 +11,13 @@ use std::time::Instant;
 
 /// Reports of unequal cases are printed up to that many for an operation.
 const REPORTS: u64 = 5;
+
+/// Of a list that locate answers, that many entries at most are asked for alone; of the lists of every run, that many.
+const ALONE: usize = 8;
+const ALONE_ALWAYS: usize = 64;
+
+/// One in so many cases of the finder has its wanted list split, and a list located over its tables; and so have those of every run.
+const SPLIT: u64 = 16;
 
 /// compared: on the domain, with the Rust; found: of the equal ones, with more than an empty answer. Off the domain, held against SPEC:
 /// refused, and answered (the Rust panics, or can't be asked). numbers: the refusals that were met, on the domain and off it.
@@ -74,6 +81,14 @@ fn report(case: &Case) -> String {
     text
 }
 
+/// A case of which what `alone` tries fails, made smaller.
+fn report_alone(case: &Case) -> String {
+    let again = |c: &Case| alone::tried(c, ours::answer(c).refusal, usize::MAX, true);
+    let case = shrink::smaller(case, |c| again(c).is_err());
+    let text = again(&case).err().unwrap_or_default();
+    format!("UNEQUAL: {text}\n  {}\n", case.describe())
+}
+
 #[derive(Default)]
 struct Counts {
     equal: AtomicU64,
@@ -84,6 +99,14 @@ struct Counts {
     /// A bit for each refusal that was met.
     numbers: AtomicU64,
     next: AtomicU64,
+}
+
+/// What `alone` tried, of all operations.
+#[derive(Default)]
+struct Further {
+    alone: AtomicU64,
+    lists: AtomicU64,
+    split: AtomicU64,
 }
 
 fn main() {
@@ -111,16 +134,18 @@ fn main() {
     let start = Instant::now();
     let mut lines = Vec::new();
     let mut bad = 0;
+    let further = Further::default();
     for op in (1..=OPS.len() as u32).filter(|&op| only.is_none_or(|o| o == op)) {
         let counts = Counts::default();
         let out = Mutex::new(());
         for case in inputs::always(op) {
-            count_in(&case, &None, "of every run", &counts, &out);
+            count_in(&case, &None, None, &counts, &further, &out);
         }
-        // As many cases as it takes to compare `count` on the domain, ten times that at most.
-        let mut made = 0;
+        // As many cases as it takes to compare `count` on the domain besides those, ten times that at most.
+        let on_domain = || counts.equal.load(Relaxed) + counts.unequal.load(Relaxed);
+        let (always, mut made) = (on_domain(), 0);
         loop {
-            let compared = counts.equal.load(Relaxed) + counts.unequal.load(Relaxed);
+            let compared = on_domain() - always;
             if compared >= count || made >= 10 * count {
                 break;
             }
@@ -128,7 +153,7 @@ fn main() {
             counts.next.store(from, Relaxed);
             std::thread::scope(|s| {
                 for _ in 0..threads {
-                    s.spawn(|| work(op, to, &made_from, &counts, &out));
+                    s.spawn(|| work(op, to, &made_from, &counts, &further, &out));
                 }
             });
             made = to;
@@ -148,12 +173,14 @@ fn main() {
     println!("seed {seed}, {count} cases an operation on the domain, {:.0} s", start.elapsed().as_secs_f64());
     println!("{HEAD}");
     lines.iter().for_each(|l| println!("{l}"));
+    let [alone, lists, split] = [&further.alone, &further.lists, &further.split].map(|c| c.load(Relaxed));
+    println!("{alone} entries asked for alone, {lists} lists over tables that the finder left, {split} wanted lists split in two");
     println!("{bad} unequal");
     std::process::exit(if bad == 0 { 0 } else { 1 });
 }
 
 /// The cases up to `to`, in stretches that the threads take in turn.
-fn work(op: u32, to: u64, made_from: &Inputs, counts: &Counts, out: &Mutex<()>) {
+fn work(op: u32, to: u64, made_from: &Inputs, counts: &Counts, further: &Further, out: &Mutex<()>) {
     const STRETCH: u64 = 1000;
     loop {
         let from = counts.next.fetch_add(STRETCH, Relaxed);
@@ -162,7 +189,7 @@ fn work(op: u32, to: u64, made_from: &Inputs, counts: &Counts, out: &Mutex<()>) 
         }
         let cases: Vec<Case> = (from..(from + STRETCH).min(to)).map(|index| made_from.case(op, index)).collect();
         for ((case, line), index) in cases.iter().zip(replayed(&cases)).zip(from..) {
-            count_in(case, &line, &index.to_string(), counts, out);
+            count_in(case, &line, Some(index), counts, further, out);
         }
         if from % 20_000 == 0 {
             eprint!("\r{:17} case {from}", OPS[op as usize - 1]);
@@ -171,26 +198,40 @@ fn work(op: u32, to: u64, made_from: &Inputs, counts: &Counts, out: &Mutex<()>) 
     }
 }
 
-fn count_in(case: &Case, line: &Option<String>, name: &str, counts: &Counts, out: &Mutex<()>) {
-    let counter = match class(case, line) {
-        Class::Equal(found, number) => {
+/// A case by its number, or one of every run.
+fn count_in(case: &Case, line: &Option<String>, index: Option<u64>, counts: &Counts, further: &Further, out: &Mutex<()>) {
+    let unequal = |report: fn(&Case) -> String| {
+        if counts.unequal.load(Relaxed) < REPORTS {
+            let text = report(case);
+            let _held = out.lock();
+            let name = index.map_or("of every run".into(), |i| i.to_string());
+            print!("case {name}: {text}");
+        }
+        counts.unequal.fetch_add(1, Relaxed);
+    };
+    let class = class(case, line);
+    let refusal = match class {
+        Class::Equal(_, number) | Class::Refused(number) => number,
+        Class::Answered => 0,
+        Class::Unequal => return unequal(report),
+    };
+    let (most, split) = index.map_or((ALONE_ALWAYS, true), |i| (ALONE, i % SPLIT == 1));
+    match alone::tried(case, refusal, most, split) {
+        Ok(tried) => {
+            further.alone.fetch_add(tried.alone, Relaxed);
+            further.lists.fetch_add(tried.lists, Relaxed);
+            further.split.fetch_add(tried.split, Relaxed);
+        }
+        Err(_) => return unequal(report_alone),
+    }
+    counts.numbers.fetch_or(1 << refusal, Relaxed);
+    let counter = match class {
+        Class::Equal(found, _) => {
             counts.found.fetch_add(found as u64, Relaxed);
-            counts.numbers.fetch_or(1 << number, Relaxed);
             &counts.equal
         }
-        Class::Refused(number) => {
-            counts.numbers.fetch_or(1 << number, Relaxed);
-            &counts.refused
-        }
-        Class::Answered => &counts.answered,
-        Class::Unequal => {
-            if counts.unequal.load(Relaxed) < REPORTS {
-                let text = report(case);
-                let _held = out.lock();
-                print!("case {name}: {text}");
-            }
-            &counts.unequal
-        }
+        Class::Refused(_) => &counts.refused,
+        _ => &counts.answered,
     };
     counter.fetch_add(1, Relaxed);
 }

@@ -169,7 +169,7 @@ pub fn some_payload(rng: &mut Rng) -> Vec<u8> {
 
 /// Some instructions, whole ones, now and then with payloads between them, and now and then bytes after them. An operand may look like the
 /// first unit of a payload, and so may a nop's unit, which then is one.
-fn instructions(rng: &mut Rng) -> Vec<u8> {
+pub fn instructions(rng: &mut Rng) -> Vec<u8> {
     const OPS: [u8; 20] = [
         0x00, 0x0e, 0x12, 0x1a, 0x1a, 0x1b, 0x1c, 0x1f, 0x22, 0x24, 0x52, 0x60, 0x6d, 0x6e, 0x71, 0x78, 0xfa, 0x18, 0x13, 0x28,
     ];

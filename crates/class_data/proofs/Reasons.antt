@@ -1,8 +1,8 @@
 -- Why the walk over a file's class data refuses: each way out of its definition is a number's, a class definition's, a method index's or a code
 -- item's.
---     WalkReason                  these refusals
---     codes-reason                the walk has no others
---     never-short, never-region   so neither 4 nor 12
+--     WalkReason                               these refusals
+--     codes-reason                             the walk has no others
+--     never-short, never-region, never-table   so neither 4 nor 12 nor 15
 -- Assumes nothing.
 use Prim.Native.Nat.{ℕ, zero, suc, _+_}
 use native.Mathlib.Omega.{arith}
@@ -50,6 +50,13 @@ never-region (number too-long) q = omega arith
 never-region class-definition q = omega arith
 never-region method-index q = omega arith
 never-region code-item q = omega arith
+
+pub never-table : {r : Refusal} → WalkReason r → refusalNumber r ≢ 15
+never-table (number outside) q = omega arith
+never-table (number too-long) q = omega arith
+never-table class-definition q = omega arith
+never-table method-index q = omega arith
+never-table code-item q = omega arith
 
 -- ---- each way out of the walk
 abbrev pub Reasoned : Walk → Type 0

@@ -1,9 +1,9 @@
 -- The region of a build lies in the file, whatever the file is: the walk over class data lets a code pass only where its array is inside, and a
 -- refusal has the region 0 to 0.
---     walked-inside   the codes found
---     region-inside   the outcome's region
---     never-12        the outcome's number
---     both            the clauses of the contract, from what the build gives
+--     walked-inside        the codes found
+--     region-inside        the outcome's region
+--     never-12, never-15   the outcome's number
+--     both                 the clauses of the contract, from what the build gives
 -- Assumes nothing.
 use Prim.Native.Nat.{ℕ, _-_, _*_}
 use native.Mathlib.Omega.{arith}
@@ -22,7 +22,7 @@ use Rattle.class_data.specs.Walk.{Walk}
 use Rattle.class_data.specs.Walk.Walk.{refused, found}
 use Rattle.class_data.specs.Codes.{codesOf}
 use Rattle.class_data.proofs.Found.{CodeIn, Each, codes-sound}
-use Rattle.class_data.proofs.Reasons.{Reasoned, codes-reason, never-region}
+use Rattle.class_data.proofs.Reasons.{Reasoned, codes-reason, never-region, never-table}
 use Rattle.code_table.specs.Slots.{baseOf, topOf, tableOf}
 use Rattle.code_table.specs.RegionEnd.{RegionInside}
 use Rattle.code_table.specs.Build.{Room, Build, mostShares, noBuild, wholeBuild, builtFrom, buildOut}
@@ -42,14 +42,15 @@ walked-inside s h cs e q = each-inside s (h .methods .size) cs (codes-sound s h 
 -- ---- the outcome
 record Inside (len : ℕ) (B : Build) : Type 0 where
   region : RegionInside len (B .from) (B .to)
-  number : B .number ≢ 12
+  not-12 : B .number ≢ 12
+  not-15 : B .number ≢ 15
 
-refuses : (len n : ℕ) → n ≢ 12 → Inside len (noBuild n)
-refuses len n d = record { region = record { rises = omega arith; inside = omega arith }; number = d }
+refuses : (len n : ℕ) → n ≢ 12 → n ≢ 15 → Inside len (noBuild n)
+refuses len n d e = record { region = record { rises = omega arith; inside = omega arith }; not-12 = d; not-15 = e }
 
 from-inside : (s : List ℕ) (h : DexHeader) (m : ℕ) (room : Room) (w : Walk) → w ≡ codesOf s h → Reasoned w
     → Inside (length s) (builtFrom (length s) m room w)
-from-inside s h m room (refused r) e n = refuses (length s) (refusalNumber r) (never-region n)
+from-inside s h m room (refused r) e n = refuses (length s) (refusalNumber r) (never-region n) (never-table n)
 from-inside s h m room (found cs x) e n =
     cond-elim (Inside (length s))
     (leb (3 * length cs) (room .triples) && leb (topOf cs - baseOf cs) (room .slots) && leb (length (tableOf cs .shares)) (room .shares)
@@ -57,24 +58,29 @@ from-inside s h m room (found cs x) e n =
     (wholeBuild (length s) m cs) (noBuild 4)
     (λ _. record {
       region = record { rises = base-end (length s) cs (walked-inside s h cs x e); inside = end-inside (length s) cs };
-      number = λ q. omega arith;
+      not-12 = λ q. omega arith;
+      not-15 = λ q. omega arith;
     })
-    (λ _. refuses (length s) 4 (λ q. omega arith))
+    (λ _. refuses (length s) 4 (λ q. omega arith) (λ q. omega arith))
 
 inside : (s : List ℕ) (h : DexHeader) (room : Room) → Inside (length s) (buildOut s h room)
 unfolding buildOut
 inside s h room =
-    cond-elim (Inside (length s)) (tooLarge (length s)) (noBuild 1) _ (λ _. refuses (length s) 1 (λ q. omega arith))
+    cond-elim (Inside (length s)) (tooLarge (length s)) (noBuild 1) _ (λ _. refuses (length s) 1 (λ q. omega arith) (λ q. omega arith))
     (λ _. cond-elim (Inside (length s)) (leb (h .methods .size) (pairsIn (room .starts)))
     (builtFrom (length s) (h .methods .size) room (codesOf s h)) (noBuild 4)
-    (λ _. from-inside s h (h .methods .size) room (codesOf s h) refl (codes-reason s h)) (λ _. refuses (length s) 4 (λ q. omega arith)))
+    (λ _. from-inside s h (h .methods .size) room (codesOf s h) refl (codes-reason s h))
+    (λ _. refuses (length s) 4 (λ q. omega arith) (λ q. omega arith)))
 
 module _ (s : List ℕ) (h : DexHeader) (room : Room) where
   pub region-inside : RegionInside (length s) (buildOut s h room .from) (buildOut s h room .to)
   region-inside = inside s h room .region
 
   pub never-12 : buildOut s h room .number ≢ 12
-  never-12 = inside s h room .number
+  never-12 = inside s h room .not-12
+
+  pub never-15 : buildOut s h room .number ≢ 15
+  never-15 = inside s h room .not-15
 
 pub both : (s : List ℕ) (h : DexHeader) {r : Built} {before after : TableWords} → GivesBuild (buildOut s h (roomOf before)) r before after
     → GivesBuild (buildOut s h (roomOf before)) r before after × RegionInside (length s) (builtRegion r .start) (builtRegion r .end)

@@ -4,3 +4,4 @@ pub mod Slots
 pub mod Build
 pub mod Walked
 pub mod Inside
+pub mod Named

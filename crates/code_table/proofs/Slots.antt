@@ -96,7 +96,7 @@ three-sets ws k a b c =
 
 -- ---- the share that a method adds
 module _ (v m : ℕ) (ws : List ℕ) where
-  joined-free : v ≡ 0 → joined v m ws ≡ []
+  pub joined-free : v ≡ 0 → joined v m ws ≡ []
   unfolding joined
   joined-free e = rw (eq-eqb v 0 e)
 
@@ -117,11 +117,11 @@ module _ (v m : ℕ) (ws : List ℕ) where
   unfolding joined
   joined-three n = rw (ne-eqb v 0 n) (cond-elim (λ (l : List ℕ). length l ≡ 3) (ltb v shared) _ _ (λ q. refl) (λ q. refl))
 
-  slot-free : v ≡ 0 → joinedSlot v m ws ≡ m + 1
+  pub slot-free : v ≡ 0 → joinedSlot v m ws ≡ m + 1
   unfolding joinedSlot
   slot-free e = rw (eq-eqb v 0 e)
 
-  slot-share : (v ≡ 0 → ⊥) → joinedSlot v m ws ≡ shared + length ws / 3
+  pub slot-share : (v ≡ 0 → ⊥) → joinedSlot v m ws ≡ shared + length ws / 3
   unfolding joinedSlot
   slot-share n = rw (ne-eqb v 0 n)
 

@@ -6,12 +6,12 @@ use native.Mathlib.Omega.{arith}
 use mathlib.Core.Path.{_≡_, sym, _∙_}
 use mathlib.Core.List.{List}
 use lib.ListN.{length}
+use Rattle.words.proofs.Shared.{some-inj}
 use Rattle.dalvik.specs.Numbers.{Bytes}
 use Rattle.dalvik.specs.Instructions.{Payload, Instruction, Reached}
 use Rattle.dalvik.specs.Instructions.Reached.{here, past-payload, past-instruction}
 use Rattle.insn_locator.proofs.Published.{step-payload, step-instruction}
 use Rattle.insn_locator.proofs.Walks.{Steps, onward, steps-le}
-use Rattle.completeness.proofs.Tests.{some-inj}
 
 -- what stands at t, in an array from a to e
 pub data Standing (s : List ℕ) (e a t : ℕ) : Type 0 where

@@ -21,13 +21,13 @@ use Rattle.code_table.specs.Slots.{baseOf, topOf, tableOf}
 use Rattle.code_table.specs.RegionEnd.{regionEnd}
 use Rattle.code_table.proofs.RegionEnd.{base-end, end-inside}
 use Rattle.code_table.specs.Build.{Build, mostShares, wholeBuild, buildOut}
+use Rattle.code_table.proofs.Named.{startsOf-length}
 use Rattle.kinds.specs.Kinds.{kindNumber, kindOf}
 use Rattle.code_item_scan.specs.Scan.{Hit, offs, Scan, scanOut}
 use Rattle.insn_locator.specs.Locate.{Tables, locateAll, locateOut}
 use Rattle.completeness.specs.Completeness.{methodLimit, Supposed, Lists, Use}
 use Rattle.completeness.proofs.Outcomes.{Lent, passedOn, builtOf, scannedOf, locatedOf, ranOf, entriesOf}
 use Rattle.completeness.proofs.Outcomes.{HoldsTable, Suffices, Confirmed, Finds, OverOutcomes}
-use Rattle.completeness.proofs.Starts.{startsOf-length}
 use Rattle.completeness.proofs.Rises.{rising-once}
 use Rattle.completeness.proofs.Found.{codes-found}
 use Rattle.completeness.proofs.Few.{codes-few, shares-few}
@@ -106,7 +106,7 @@ module _ (s : List ℕ) (h : DexHeader) (codes : List Code) (P : Supposed s (h .
   starts-length p = length-padded j (startsOf (h .methods .size) codes) (omega (arith, startsOf-length (h .methods .size) codes))
 
   all-located : locateAll s T (offs hits) ≡ some A
-  unfolding locateAll A
+  unfolding A
   all-located = answers P kind wanted i j k .gives
 
   pub locate-is : length hits ≤ L .answers → 2 * h .methods .size ≤ L .starts → pairsIn (L .starts) ≤ L .further → locatedOf s L B S ≡ success A

@@ -8,12 +8,11 @@ use mathlib.Core.Logic.{_≢_}
 use mathlib.Core.Bool.{cond, _&&_}
 use mathlib.Core.List.{List, List·Memᴰ, Memᴰ·cast}
 use lib.Dec.{ltb}
-use lib.ListN.{length, getD, replicate, length-map, List·getD-map}
+use lib.ListN.{length, getD, length-map, List·getD-map}
 use Rattle.dalvik.specs.Numbers.{byte}
 use Rattle.dalvik.specs.Formats.{lengthOf}
 use Rattle.dalvik.specs.CodeItem.{Code, start, stop}
 use Rattle.dalvik.specs.Instructions.{Kind, Names}
-use Rattle.start_words.specs.Starts.{pairCount}
 use Rattle.code_table.specs.Slots.{baseOf}
 use Rattle.code_table.specs.RegionEnd.{regionEnd}
 use Rattle.code_table.proofs.Buckets.{base-le}
@@ -29,7 +28,7 @@ use Rattle.completeness.proofs.Members.{at-place}
 use Rattle.insn_locator.proofs.Walks.{steps-le}
 use Rattle.completeness.proofs.Buckets.{InBuckets}
 use Rattle.completeness.proofs.Widths.{zero-width, index-fits, Seen, named-width, width-names}
-use Rattle.completeness.proofs.Locates.{Located, located, none-yet}
+use Rattle.completeness.proofs.Locates.{Located, located}
 use Rattle.completeness.proofs.Rises.{above-rising}
 use Rattle.completeness.proofs.Walks.{before-end, passes, at-even}
 use Rattle.completeness.proofs.Owners.{tablesFor, slotOf, owner, answerable, answer-is}
@@ -101,8 +100,8 @@ module _ {s : List ℕ} {mapoff classesOff classes methods : ℕ} {codes : List 
     abbrev T : Tables
     T = tablesFor methods codes i j k
 
-    pub answers : Located s T (replicate (pairCount (T .starts)) 0) (offs hits)
-    answers = located s T (answerable P i j k) (hits-above s Q) (omega arith) (none-yet s (T .starts))
+    pub answers : Located s T (offs hits)
+    answers = located s T (answerable P i j k) (hits-above s Q)
 
     pub answer-at : (d : Code) → List·Memᴰ d codes → (n o x : ℕ) → n < length hits
         → getD hits n noHit ≡ record { off = o; mark = x } → InBuckets d (o / 16)

@@ -28,4 +28,5 @@ pub mod SharedCase
 pub mod EndCase
 pub mod PayloadCase
 pub mod PaddingCase
+pub mod AloneCase
 pub mod Computed

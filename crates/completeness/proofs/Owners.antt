@@ -12,7 +12,7 @@ use lib.Dec.{ltb}
 use borrow.Author.Tests.{le-leb, lt-leb, lt-ltb}
 use Rattle.words.specs.Padded.{padded}
 use Rattle.words.proofs.Padded.{padded-at}
-use Rattle.words.proofs.Shared.{case}
+use Rattle.words.proofs.Shared.{case, some-inj}
 use Rattle.dalvik.specs.CodeItem.{Code, start, stop}
 use Rattle.start_words.specs.Starts.{pairOf}
 use Rattle.start_words.proofs.Starts.{pair-padded}
@@ -23,13 +23,15 @@ use Rattle.insn_locator.specs.Walk.{lands}
 use Rattle.insn_locator.specs.Locate.{Tables, slotAt, firstOf}
 use Rattle.slot_listing.specs.Listing.{listed}
 use Rattle.completeness.specs.Completeness.{Supposed, sharing, arranged}
-use Rattle.completeness.proofs.Tests.{some-inj, lt-or-le}
+use Rattle.completeness.proofs.Tests.{lt-or-le}
 use Rattle.completeness.proofs.Members.{head-of, mem-sharing, Sharer, sharer, mem-arranged, arranged-mem}
 use Rattle.completeness.proofs.Buckets.{InBuckets, one-offset, owner-of}
 use Rattle.completeness.proofs.Shares.{Stands, stands-padded, stands-lists, stands-first, stands-some}
 use Rattle.completeness.proofs.Slots.{slot-held, slot-vacant}
 use Rattle.completeness.proofs.Starts.{arrayOf, startsOf-mem}
-use Rattle.completeness.proofs.Locates.{confirms, Answerable, vacant, by, Answer, walked}
+use Rattle.insn_locator.proofs.Alone.{confirms}
+use Rattle.insn_locator.proofs.Built.{Answerable, no-method, by}
+use Rattle.completeness.proofs.Locates.{Answer, vacant, walked}
 
 -- what a build returned, with zeros after
 abbrev pub tablesFor : ℕ → List Code → ℕ → ℕ → ℕ → Tables
@@ -118,5 +120,5 @@ module _ {s : List ℕ} {mapoff classesOff classes methods : ℕ} {codes : List 
       (λ (r : (d : Code) × List·Memᴰ d codes × InBuckets d (t / 16)).
       let o : Owner T codes (r .0) t = owner (r .0) (r .1) t (r .2) in
       by (o .not-free) (o .m) (o .first) (arrayOf (r .0)) (o .array))
-      (λ f. vacant (slot-free t f))
+      (λ f. no-method (slot-free t f))
       (owner-of codes (t / 16))

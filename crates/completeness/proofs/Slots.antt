@@ -10,13 +10,13 @@ use mathlib.Core.List.{List, [], _∷_, _++_, append-nil, append-assoc, List·Me
 use lib.ListN.{length, getD, replicate, length-replicate}
 use borrow.Author.Tests.{eq-eqb, ne-eqb}
 use Rattle.words.specs.Padded.{stretch}
-use Rattle.words.proofs.Padded.{length-stretch}
+use Rattle.words.proofs.Padded.{getD-zeros, length-stretch}
 use Rattle.dalvik.specs.CodeItem.{Code}
 use Rattle.class_data.specs.Stored.{firstBucket, lastBucket}
 use Rattle.code_table.specs.Slots.{baseOf, topOf, Table, joined, joinedSlot, place, tableFrom, tableOf}
 use Rattle.code_table.proofs.Buckets.{base-le, top-lt}
 use Rattle.completeness.specs.Completeness.{Supposed, sharing, arranged}
-use Rattle.completeness.proofs.Tests.{eq-or-not, lt-or-le, getD-zeros}
+use Rattle.completeness.proofs.Tests.{eq-or-not, lt-or-le}
 use Rattle.completeness.proofs.Members.{sharing-append}
 use Rattle.completeness.proofs.Buckets.{InBuckets, one-item, one-offset}
 use Rattle.completeness.proofs.Shares.{Stands, free, stands-append, adds, arranged-snoc, join, joined-length}

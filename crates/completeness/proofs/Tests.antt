@@ -2,33 +2,23 @@
 -- Assumes nothing.
 use Prim.Native.Nat.{ℕ, _≤_, _<_}
 use native.Mathlib.Omega.{arith}
-use mathlib.Core.Path.{_≡_, sym, _∙_, ap}
+use mathlib.Core.Path.{_≡_}
 use mathlib.Core.Logic.{_⊎_, inl, inr, ⊎-elim}
 use mathlib.Core.Bool.{true, false}
 use mathlib.Core.List.{List, [], _∷_, List·Memᴰ, List·Memᴰ·head, List·Memᴰ·tail}
-use mathlib.Core.Option.{some}
 use lib.Dec.{ltb, eqb}
-use lib.ListN.{getD}
 use borrow.Author.Tests.{ltb-true, ltb-false, eqb-true, eqb-false, eq-eqb}
-use Rattle.words.specs.Padded.{zeros}
-use Rattle.words.proofs.Padded.{padded-none, padded-at}
 use Rattle.words.proofs.Shared.{case, or-right}
 use Rattle.code_item_scan.specs.Scan.{isIn}
 
 pub no-test : false ≡ true → ⊥
 no-test q = let z : _≡_ {A = ℕ} 0 1 = cc in omega arith
 
-pub some-inj : {A : Type 0} {a b : A} → some a ≡ some b → a ≡ b
-some-inj e = cc
-
 pub eq-or-not : (a b : ℕ) → (a ≡ b) ⊎ (a ≡ b → ⊥)
 eq-or-not a b = ⊎-elim (λ (e : eqb a b ≡ true). inl (eqb-true a b e)) (λ (e : eqb a b ≡ false). inr (eqb-false a b e)) (case (eqb a b))
 
 pub lt-or-le : (a b : ℕ) → (a < b) ⊎ (b ≤ a)
 lt-or-le a b = ⊎-elim (λ (e : ltb a b ≡ true). inl (ltb-true a b e)) (λ (e : ltb a b ≡ false). inr (ltb-false a b e)) (case (ltb a b))
-
-pub getD-zeros : (n i : ℕ) → getD (zeros n) i 0 ≡ 0
-getD-zeros n i = ap (λ (l : List ℕ). getD l i 0) (sym (padded-none n)) ∙ padded-at n [] i
 
 -- the scan's test of a wanted index decides membership
 pub isIn-mem : (x : ℕ) (ys : List ℕ) → isIn x ys ≡ true → List·Memᴰ x ys

@@ -1,44 +1,50 @@
 -- Each way out of the finder leaves what its outcome says: a refusal's number is never 0, so that the outcome takes the same branch.
 -- Assumes nothing.
-use Prim.Native.Nat.{ℕ, _-_, _*_, _/_}
-use native.Mathlib.Omega.{arith}
+use Prim.Native.Nat.{ℕ, _/_}
 use mathlib.Core.Path.{_≡_, refl, sym, ap, _∙_}
 use mathlib.Core.Logic.{⊎-elim}
-use mathlib.Core.Bool.{true, false, _&&_}
+use mathlib.Core.Bool.{true, false}
 use mathlib.Core.List.{List, []}
 use lib.ListN.{length}
-use lib.Dec.{leb, eqb}
+use lib.Dec.{eqb}
 use borrow.Author.Tests.{eq-eqb, ne-eqb, eqb-true}
 use Rattle.words.specs.Padded.{zeros, padded}
 use Rattle.words.proofs.Padded.{padded-none}
-use Rattle.words.proofs.Shared.{case, cond-elim}
+use Rattle.words.proofs.Shared.{case}
 use Rattle.refusal.proofs.Numbers.{some-number}
-use Rattle.refusal.specs.Refusals.{tooLarge}
+use Rattle.refusal.specs.Outcomes.{Outcome}
 use Rattle.refusal.specs.declared.Refusal.{Refusal}
 use Rattle.refusal.specs.declared.Answer.{Answer}
 use Rattle.refusal.specs.declared.Answer.the-variants as a
-use Rattle.start_words.specs.Starts.{pairsIn, firstStarts}
+use Rattle.start_words.specs.Starts.{firstStarts}
 use Rattle.start_words.proofs.Starts.{first-padded}
 use Rattle.tinydex.specs.declared.DexHeader.{DexHeader}
-use Rattle.class_data.specs.Walk.{Walk}
-use Rattle.class_data.specs.Walk.Walk.{refused, found as codes-found}
-use Rattle.class_data.specs.Codes.{codesOf}
-use Rattle.code_table.specs.Slots.{baseOf, topOf, tableOf}
-use Rattle.code_table.specs.Build.{mostShares, Room, Build, noBuild, wholeBuild, builtFrom, buildOut}
+use Rattle.code_table.specs.Build.{Build, buildOut}
 use Rattle.code_table.specs.Answer.{TableWords, roomOf, GivesBuild}
 use Rattle.code_table.specs.declared.Region.{Region}
 use Rattle.code_table.specs.declared.Built.{Built}
 use Rattle.code_table.specs.declared.Built.the-variants as b
-use Rattle.code_item_scan.specs.Scan.{offs, marks, asked}
+use Rattle.code_table.proofs.Named.{starts-length}
+use Rattle.code_item_scan.specs.Scan.{Hit, offs, marks, asked}
 use Rattle.code_item_scan.specs.Answers.{hitRoomOf}
 use Rattle.insn_locator.specs.Answers.{tables}
 use Rattle.completeness.specs.Completeness.{FindWords, findWords}
-use Rattle.completeness.proofs.Starts.{startsOf-length}
-use Rattle.findrefs.specs.Find.{Lengths, lengthsOf, Search, searchOut, Find, found, searchOf, findOut}
+use Rattle.findrefs.specs.Find.{Lengths, lengthsOf, Search, searched, searchOut, Find, found, searchOf, findOut}
 use Rattle.findrefs.specs.Gives.{GivesFind}
 use Rattle.findrefs.specs.Steps.{four, Cleared, searchWords, GivesSearch, FoundIn}
 use Rattle.findrefs.specs.declared.Found.{Found}
 use Rattle.findrefs.specs.declared.Found.the-variants as r
+
+-- ---- an outcome's number is that of the operation that refuses
+pub searched-number : (hits : List Hit) (A : Outcome) → searched hits A .number ≡ A .number
+searched-number hits A =
+    ⊎-elim (λ (e : eqb (A .number) 0 ≡ true). rw e (sym (eqb-true (A .number) 0 e))) (λ (e : eqb (A .number) 0 ≡ false). rw e)
+    (case (eqb (A .number) 0))
+
+pub found-number : (B : Build) (R : Search) → found B R .number ≡ R .number
+found-number B R =
+    ⊎-elim (λ (e : eqb (R .number) 0 ≡ true). rw e (sym (eqb-true (R .number) 0 e))) (λ (e : eqb (R .number) 0 ≡ false). rw e)
+    (case (eqb (R .number) 0))
 
 -- ---- the search over a build
 module _ (o : Search) (g : Region) (before after : FindWords) where
@@ -83,26 +89,6 @@ module _ (o : Search) (g : Region) (before after : FindWords) where
         further = S .further;
         answers = S .answers;
       }
-
--- ---- a build that succeeds has two start words for each method
-abbrev StartEach : ℕ → Build → Type 0
-StartEach m B = B .number ≡ 0 → length (B .starts) ≡ 2 * m
-
-start-each : (len m : ℕ) (room : Room) (x : Walk) → StartEach m (builtFrom len m room x)
-start-each len m room (refused r) = λ e. absurd (some-number r e)
-start-each len m room (codes-found cs n) =
-    cond-elim (StartEach m)
-    (leb (3 * length cs) (room .triples) && leb (topOf cs - baseOf cs) (room .slots) && leb (length (tableOf cs .shares)) (room .shares)
-    && leb (length (tableOf cs .shares)) mostShares)
-    (wholeBuild len m cs) (noBuild 4) (λ _ e. startsOf-length m cs) (λ _ e. absurd (omega arith))
-
-pub built-starts : (s : List ℕ) (h : DexHeader) (room : Room) → StartEach (h .methods .size) (buildOut s h room)
-unfolding buildOut
-built-starts s h room =
-    cond-elim (StartEach (h .methods .size)) (tooLarge (length s)) (noBuild 1) _ (λ _ e. absurd (omega arith))
-    (λ _. cond-elim (StartEach (h .methods .size)) (leb (h .methods .size) (pairsIn (room .starts)))
-    (builtFrom (length s) (h .methods .size) room (codesOf s h)) (noBuild 4)
-    (λ _. start-each (length s) (h .methods .size) room (codesOf s h)) (λ _ e. absurd (omega arith)))
 
 -- ---- what is cleared is as long as before
 pub record SameRoom (t u : TableWords) : Type 0 where
@@ -168,7 +154,7 @@ module _ (s : List ℕ) (h : DexHeader) (kind : ℕ) (wanted : List ℕ) (before
     passed-is =
         ap (firstStarts (h .methods .size)) (B .starts)
         ∙ first-padded (h .methods .size) (buildOf .starts) (length (before .table .starts))
-        (built-starts s h (roomOf (before .table)) (sym (B .number)))
+        (starts-length s h (roomOf (before .table)) (sym (B .number)))
 
     searched-is : searchOut s (asked kind wanted (g .start) (g .end))
         (tables (g .start / 16) (t .slots) (firstStarts (h .methods .size) (t .starts)) (t .shares))

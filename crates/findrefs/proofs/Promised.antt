@@ -19,8 +19,9 @@ use Rattle.tinydex.specs.declared.DexHeader.{DexHeader}
 use Rattle.dalvik.specs.CodeItem.{Code}
 use Rattle.dalvik.specs.Instructions.{Kind}
 use Rattle.code_table.specs.Build.{Build, wholeBuild}
+use Rattle.code_table.proofs.Named.{starts-length}
 use Rattle.kinds.specs.Kinds.{kindNumber}
-use Rattle.code_item_scan.specs.Scan.{Hit, offs, marks, Scan}
+use Rattle.code_item_scan.specs.Scan.{offs, marks, Scan}
 use Rattle.insn_locator.specs.Locate.{locateOut}
 use Rattle.insn_locator.specs.Answers.{tables}
 use Rattle.completeness.specs.Completeness.{Supposed, FindWords, callOf, Demand3}
@@ -30,21 +31,10 @@ use Rattle.completeness.proofs.Words.{Holds}
 use Rattle.completeness.proofs.Room.{build-holds, scan-holds, locate-holds}
 use Rattle.completeness.proofs.Enough.{lentOf}
 use Rattle.completeness.proofs.Promise.{Reports, keeps}
-use Rattle.findrefs.proofs.Laws.{built-starts}
-use Rattle.findrefs.specs.Find.{Lengths, lengthsOf, Search, searched, searchOut, Find, found, searchOf, builtTables, findOut}
+use Rattle.findrefs.proofs.Laws.{searched-number, found-number}
+use Rattle.findrefs.specs.Find.{Lengths, lengthsOf, searchOut, Find, found, searchOf, builtTables, findOut}
 use Rattle.findrefs.specs.Gives.{replyOf, GivesFind}
 use Rattle.findrefs.specs.declared.Found.{Found}
-
--- ---- an outcome's number is that of the operation that refuses
-pub searched-number : (hits : List Hit) (A : Outcome) → searched hits A .number ≡ A .number
-searched-number hits A =
-    ⊎-elim (λ (e : eqb (A .number) 0 ≡ true). rw e (sym (eqb-true (A .number) 0 e))) (λ (e : eqb (A .number) 0 ≡ false). rw e)
-    (case (eqb (A .number) 0))
-
-pub found-number : (B : Build) (R : Search) → found B R .number ≡ R .number
-found-number B R =
-    ⊎-elim (λ (e : eqb (R .number) 0 ≡ true). rw e (sym (eqb-true (R .number) 0 e))) (λ (e : eqb (R .number) 0 ≡ false). rw e)
-    (case (eqb (R .number) 0))
 
 module _ (s : List ℕ) (h : DexHeader) (kind : Kind) (wanted : List ℕ) (w : FindWords) where
   abbrev m : ℕ
@@ -67,7 +57,7 @@ module _ (s : List ℕ) (h : DexHeader) (kind : Kind) (wanted : List ℕ) (w : F
       locateOut s
       (tables (R .build .from / 16) (padded (L .build .slots) (R .build .slots)) zs (padded (L .build .shares) (R .build .shares)))
       (offs (R .scan .hits)) (L .answers) (L .further))
-      (sym (padded-full (2 * m) (R .build .starts) (built-starts s h (L .build) p)))
+      (sym (padded-full (2 * m) (R .build .starts) (starts-length s h (L .build) p)))
 
   -- the build refuses
   number-unbuilt : R .build .number ≢ 0 → goal .number ≡ R .build .number

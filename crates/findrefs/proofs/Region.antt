@@ -25,7 +25,7 @@ use Rattle.findrefs.specs.Find.{Lengths, lengthsOf, Search, searchOut, F
 use Rattle.findrefs.specs.Gives.{GivesFind}
 use Rattle.findrefs.specs.Region.{NeverOutside}
 use Rattle.findrefs.specs.declared.Found.{Found}
-use Rattle.findrefs.proofs.Promised.{searched-number, found-number}
+use Rattle.findrefs.proofs.Laws.{searched-number, found-number}
 
 -- ---- locate
 from-answers : (l : Option (List ℕ)) → answersFrom l .number ≢ 12

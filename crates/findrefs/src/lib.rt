@@ -11,6 +11,7 @@ ghost use Rattle.completeness.specs.Completeness.{findWords, callOf, Demand3};
 ghost use Rattle.findrefs.specs.Find.{lengthsOf, searchOut, findOut};
 ghost use Rattle.findrefs.specs.Gives.{GivesFind, replyOf};
 ghost use Rattle.findrefs.specs.Region.{NeverOutside};
+ghost use Rattle.findrefs.specs.Alone.{StandAlone};
 ghost use Rattle.findrefs.specs.Steps.{FoundIn};
 use code_table::Built;
 use code_table::Region;
@@ -81,7 +82,8 @@ fn found_in(
 // Every instruction of a kind that names a wanted index. Whatever stood in the lent slices, they hold afterwards: the build's start words,
 // triples, slots and shares; the scan's offsets and the indices beside them; for each entry its slot word, or 0 where no walk confirms
 // it; and zeros in the further words, of which as many are needed as there are methods. On a refusal every lent word is zero. It never refuses
-// 12: the region that it scans lies in the file.
+// 12, since the region that it scans lies in the file, nor 15, since the tables are a build's. An entry's answer is its own, whatever else is
+// wanted.
 pub fn find(
     file: &[u8],
     header: DexHeader,
@@ -109,6 +111,10 @@ pub fn find(
         let after = findWords left (hitWords (now (offs .exit)) (now (marks .exit))) (locateWords (now (further .exit)) (now (answers .exit))) in
         ⌜ Demand3 (callOf (now (file .entry)) header kind (now (wanted .entry))) before (replyOf r) after ⌝ }
     ensures never_outside { λ r. ⌜ NeverOutside (now (file .entry)) r ⌝ }
+    ensures alone { λ r.
+        let left = tableWords (now (starts .exit)) (now (triples .exit)) (now (slots .exit)) (now (shares .exit)) in
+        let after = findWords left (hitWords (now (offs .exit)) (now (marks .exit))) (locateWords (now (further .exit)) (now (answers .exit))) in
+        ⌜ StandAlone (callOf (now (file .entry)) header kind (now (wanted .entry))) r after ⌝ }
 {
     match code_table::parse(file, header, starts, triples, slots, shares) {
         Built::Refused(r) => {

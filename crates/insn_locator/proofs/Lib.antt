@@ -3,6 +3,11 @@ pub mod Headers
 pub mod Steps
 pub mod Published
 pub mod Walks
+pub mod Climbing
+pub mod Alone
+pub mod Slots
 pub mod Tables
 pub mod Entries
 pub mod Whole
+pub mod Built
+pub mod Clauses

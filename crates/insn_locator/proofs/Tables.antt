@@ -1,42 +1,20 @@
 -- Laws of an entry's answer, one for each way out of its definition.
 -- Assumes nothing.
 use mathlib.Core.Path.{_≡_, ap, _∙_}
-use mathlib.Core.Bool.{true, false}
+use mathlib.Core.Bool.{Bool, true, false}
 use mathlib.Core.Option.{Option, none, some}
 use mathlib.Core.List.{List}
-use Prim.Native.Nat.{ℕ, _+_, _-_, _*_, _/_, _≤_, _<_}
-use native.Mathlib.Nat.{add-zero}
+use Prim.Native.Nat.{ℕ, _≤_, _<_}
 use native.Mathlib.Omega.{arith}
-use lib.ListN.{length, getD, set}
-use borrow.Author.Tests.{lt-ltb, le-ltb, le-leb, lt-leb, eq-eqb, ne-eqb}
+use lib.ListN.{getD, set}
+use borrow.Author.Tests.{lt-ltb, le-ltb, eq-eqb, ne-eqb}
 use Rattle.start_words.specs.Starts.{Pair, pairOf}
-use Rattle.code_table.specs.Slots.{shared}
 use Rattle.insn_locator.specs.Walk.{lands}
+use Rattle.insn_locator.specs.Answers.{entryOf}
+use Rattle.insn_locator.specs.declared.Entry.{Entry}
+use Rattle.insn_locator.specs.declared.Entry.the-variants.{Word, Fault}
+use Rattle.insn_locator.specs.Steps.{Tried, answerOf, EntryIn}
 use Rattle.insn_locator.specs.Locate.{Tables, slotAt, firstOf, Answered, fromOf, tried, triedBy, answeredBy, answered}
-
--- ---- the slot and its first method
-
-module _ (base : ℕ) (slots : List ℕ) (t : ℕ) where
-  pub slot-below : t / 16 < base → 0 ≡ slotAt base slots t
-  unfolding slotAt
-  slot-below h = simp (lt-leb base (t / 16) h)
-
-  pub slot-from : base ≤ t / 16 → getD slots (t / 16 - base) 0 ≡ slotAt base slots t
-  unfolding slotAt
-  slot-from h = simp (le-leb base (t / 16) h)
-
-module _ (ws : List ℕ) (v : ℕ) where
-  pub first-single : v < shared → some (v - 1) ≡ firstOf ws v
-  unfolding firstOf
-  first-single h = simp (lt-ltb v shared h)
-
-  pub first-outside : shared ≤ v → length ws < 3 * (v - shared) + 3 → none ≡ firstOf ws v
-  unfolding firstOf
-  first-outside h k = simp (le-ltb v shared h, lt-leb (3 * (v - shared) + 3) (length ws) k)
-
-  pub first-shared : shared ≤ v → 3 * (v - shared) + 3 ≤ length ws → some (getD ws (3 * (v - shared)) 0) ≡ firstOf ws v
-  unfolding firstOf
-  first-shared h k = simp (le-ltb v shared h, le-leb (3 * (v - shared) + 3) (length ws) k, add-zero)
 
 -- ---- a method's walk tried
 
@@ -53,6 +31,14 @@ module _ (s : List ℕ) (p : Pair) (last : List ℕ) (v m t : ℕ) where
 
     pub tried-on : 0 < from → lands s from t ≡ true → record { answer = v; last = set last m t } ≡ tried s p last v m t
     tried-on h e = rw (lt-ltb t (p .end) before, ← here, lt-ltb 0 from h, e)
+
+-- what was done is the definition's, in either way
+pub tried-same : {onward : Bool} {goal done : Answered} → done ≡ goal → Tried onward goal done
+tried-same e = record { answer = ap (λ (r : Answered). r .answer) e; whole = λ _. e }
+
+-- onward the words may be others
+pub tried-onward : {onward : Bool} {goal done : Answered} → onward ≡ true → done .answer ≡ goal .answer → Tried onward goal done
+tried-onward o e = record { answer = e; whole = λ z. absurd (let y : _≡_ {A = ℕ} 0 1 = cc in omega arith) }
 
 -- ---- an entry answered
 
@@ -71,7 +57,16 @@ module _ (s : List ℕ) (T : Tables) (last : List ℕ) (t v : ℕ) (slot : v ≡
       → none ≡ answered s T last t (slotAt (T .base) (T .slots) t)
   entry-unknown m h e k = ap (triedBy s last v m t) k ∙ entry-by (some m) h e
 
-  pub entry-tried : (m : ℕ) (p : Pair) (r : Answered) → 0 < v → some m ≡ firstOf (T .shares) v → some p ≡ pairOf (T .starts) m
-      → r ≡ tried s p last v m t
-      → some r ≡ answered s T last t (slotAt (T .base) (T .slots) t)
-  entry-tried m p r h e k q = ap some q ∙ ap (triedBy s last v m t) k ∙ entry-by (some m) h e
+  pub entry-tried : (m : ℕ) (p : Pair) → 0 < v → some m ≡ firstOf (T .shares) v → some p ≡ pairOf (T .starts) m
+      → some (tried s p last v m t) ≡ answered s T last t (slotAt (T .base) (T .slots) t)
+  entry-tried m p h e k = ap (triedBy s last v m t) k ∙ entry-by (some m) h e
+
+-- an entry answered by the definition's words, in either way
+pub entry-same : {onward : Bool} {goal : Option Answered} (r : Entry) (last : List ℕ) → entryOf r last ≡ goal → EntryIn onward goal r last
+entry-same (Word a) last e = record { answer = ap answerOf e; whole = λ _. e }
+entry-same Fault last e = record { answer = ap answerOf e; whole = λ _. e }
+
+-- by a walk tried in either way
+pub entry-by-walk : {onward : Bool} {goal : Option Answered} {r : Answered} (a : ℕ) (last : List ℕ) → some r ≡ goal
+    → Tried onward r (record { answer = a; last = last }) → EntryIn onward goal (Word a) last
+entry-by-walk a last e W = record { answer = ap some (W .answer) ∙ ap answerOf e; whole = λ o. ap some (W .whole o) ∙ e }

@@ -1,6 +1,6 @@
 -- Laws of the walk. A step goes forward, so the bytes up to the target are more than enough steps, and callers see no bound on them; and
 -- from each place the walk has one way, so of two places that it comes to it passes the nearer one on its way to the other.
---     walk     walk-end, walk-stuck, walk-step, walk-on
+--     walk     walk-end, walk-stuck, walk-step, lands-step; walk-on, walk-lands, walk-passes, walk-fails
 --     Steps    steps-le, steps-even, steps-trans, steps-on; lands-to, to-lands, lands-again
 -- Assumes nothing.
 use mathlib.Core.Path.{_≡_, refl, ap, sym, _∙_}
@@ -10,7 +10,8 @@ use mathlib.Core.Option.{Option, none, some}
 use Prim.Native.Nat.{ℕ, zero, suc, _+_, _-_, _%_, _≤_, _<_}
 use native.Mathlib.Omega.{arith}
 use lib.Dec.{eqb, ltb}
-use borrow.Author.Tests.{lt-ltb, le-ltb, ltb-true, ltb-false, eq-eqb, eqb-true}
+use borrow.Author.Tests.{lt-ltb, le-ltb, ltb-true, ltb-false, eq-eqb, ne-eqb, eqb-true}
+use Rattle.words.proofs.Shared.{same-test}
 use Rattle.insn_locator.specs.Walk.{step, Walked, arrived, failed, afterSteps, onStep, walkIn, walk, lands}
 use Rattle.insn_locator.proofs.Steps.{Stepped, step-keeps}
 
@@ -62,6 +63,10 @@ module _ (s : List ℕ) (p t : ℕ) where
       ∙ going (t - p) s p t (some q) h e
       ∙ ap (afterSteps 1) (enough (t - p) (t - q) s t q (omega arith) (omega arith))
 
+-- a step changes nothing of what lies after it
+pub lands-step : (s : List ℕ) (p t q : ℕ) → p < t → some q ≡ step s p → lands s q t ≡ lands s p t
+lands-step s p t q h e = sym (ap (λ (w : Walked). w .lands) (walk-step s p t q h e))
+
 after-more : (k : ℕ) (w : Walked) → afterSteps (k + 1) w ≡ afterSteps k (afterSteps 1 w)
 after-more k w =
     let e : k + 1 + w .steps ≡ k + (1 + w .steps) = omega arith in
@@ -77,10 +82,16 @@ module _ (s : List ℕ) (p t k : ℕ) where
   pub walk-on : (q : ℕ) → p < t → some q ≡ step s p → afterSteps (k + 1) (walk s q t) ≡ afterSteps k (walk s p t)
   walk-on q h e = after-more k (walk s q t) ∙ ap (afterSteps k) (sym (walk-step s p t q h e))
 
-  pub walk-ends : t ≤ p → record { lands = eqb p t; steps = k } ≡ afterSteps k (walk s p t)
-  walk-ends h =
+  ends-by : (b : Bool) → b ≡ eqb p t → t ≤ p → record { lands = b; steps = k } ≡ afterSteps k (walk s p t)
+  ends-by b q h =
       let e : k ≡ k + 0 = omega arith in
-      ap (λ (n : ℕ). record { lands = eqb p t; steps = n }) e ∙ ap (afterSteps k) (sym (walk-end s p t h))
+      rw q (ap (λ (n : ℕ). record { lands = eqb p t; steps = n }) e) ∙ ap (afterSteps k) (sym (walk-end s p t h))
+
+  pub walk-lands : p ≡ t → record { lands = true; steps = k } ≡ afterSteps k (walk s p t)
+  walk-lands e = ends-by true (sym (eq-eqb p t e)) (omega arith)
+
+  pub walk-passes : t < p → record { lands = false; steps = k } ≡ afterSteps k (walk s p t)
+  walk-passes h = ends-by false (sym (ne-eqb p t (λ z. omega arith))) (omega arith)
 
   pub walk-fails : p < t → none ≡ step s p → record { lands = false; steps = k + 1 } ≡ afterSteps k (walk s p t)
   walk-fails h e = ap (afterSteps k) (sym (walk-stuck s p t h e))
@@ -145,11 +156,6 @@ to-lands {s} {p} {t} (here e) = ap (λ (w : Walked). w .lands) (walk-end s p t (
 to-lands {s} {p} {t} (onward {q = q} e r) =
     let k : Stepped s p q = step-keeps s p q (sym e) in
     ap (λ (w : Walked). w .lands) (walk-step s p t q (omega (arith, steps-le r)) (sym e)) ∙ to-lands r
-
-same-test : (a b : Bool) → (a ≡ true → b ≡ true) → (b ≡ true → a ≡ true) → a ≡ b
-same-test true b f g = sym (f refl)
-same-test false true f g = g refl
-same-test false false f g = refl
 
 -- from a place that the walk from a has come to, it lands on what lies after that as the walk from a does
 pub lands-again : (s : List ℕ) (a p t : ℕ) → Steps s a p → p ≤ t → lands s p t ≡ lands s a t

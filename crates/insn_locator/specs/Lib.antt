@@ -1,4 +1,5 @@
 pub mod Answers
+pub mod Alone
 pub mod Locate
 pub mod Walk
 pub mod Steps

@@ -2,7 +2,7 @@
 -- Assumes nothing.
 use Prim.Native.Nat.{ℕ, _+_, _-_, _*_, _/_}
 use mathlib.Core.List.{List, [], _∷_}
-use mathlib.Core.Bool.{cond, _&&_}
+use mathlib.Core.Bool.{Bool, cond, _&&_}
 use mathlib.Core.Option.{Option, none, some}
 use lib.ListN.{length, getD, set, replicate}
 use lib.Dec.{ltb, leb, eqb}
@@ -37,12 +37,23 @@ pub record Answered : Type 0 where
 abbrev pub fromOf : ℕ → ℕ → ℕ
 fromOf start confirmed = cond (eqb confirmed 0) start confirmed
 
--- the slot word is v, and its first method m, with the pair p: nothing is confirmed at the end of its array or past it, nor by a start of 0
+-- an entry at t is before the end of the method's array
+abbrev pub beforeEnd : Pair → ℕ → Bool
+beforeEnd p t = ltb t (p .end)
+
+-- and a walk from a place other than 0 confirms it
+abbrev pub confirmedBy : List ℕ → Pair → ℕ → ℕ → Bool
+confirmedBy s p from t = beforeEnd p t && (ltb 0 from && lands s from t)
+
+-- the last confirmed offsets after an entry at t of method m
+abbrev pub noted : Bool → List ℕ → ℕ → ℕ → List ℕ
+noted confirmed last m t = cond confirmed (set last m t) last
+
+-- the slot word is v, and its first method m, with the pair p
 abbrev pub tried : List ℕ → Pair → List ℕ → ℕ → ℕ → ℕ → Answered
 tried s p last v m t =
-    cond (ltb t (p .end) && (ltb 0 (fromOf (p .start) (getD last m 0)) && lands s (fromOf (p .start) (getD last m 0)) t))
-    (record { answer = v; last = set last m t })
-    (record { answer = 0; last = last })
+    let confirmed = confirmedBy s p (fromOf (p .start) (getD last m 0)) t in
+    record { answer = cond confirmed v 0; last = noted confirmed last m t }
 
 -- a first method without both start words: 15
 abbrev pub triedBy : List ℕ → List ℕ → ℕ → ℕ → ℕ → Option Pair → Option Answered

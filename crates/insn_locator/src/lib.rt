@@ -1,14 +1,17 @@
 // Confirms entries (`insn_verify` and `locate` of insn_locator.rs): an entry is confirmed where it lies before its method's end and a walk over
 // instructions and payloads, from that method's start or its last confirmed entry, lands on it exactly.
+// A list that does not fall is taken onward: each method's walk then goes on from where it stands, so that no stretch is walked twice.
 mod walk; // walk.rt: the walk over instructions and payloads, and its step
 
 ghost use mathlib.Core.Path.{_≡_};
-ghost use Prim.Native.Nat.{_<_, _≤_};
+ghost use Prim.Native.Nat.{_<_};
+ghost use mathlib.Core.Bool.{true};
 ghost use lib.ListN.{length};
 ghost use Rattle.start_words.specs.Starts.{pair};
 ghost use Rattle.insn_locator.specs.Answers.{tables, entryOf, locateWords, Located};
+ghost use Rattle.insn_locator.specs.Alone.{StandsAlone};
 ghost use Rattle.insn_locator.specs.Locate.{slotAt, firstOf, fromOf, tried, answeredAt, locateFrom, locateOut};
-ghost use Rattle.insn_locator.specs.Steps.{firstValue, stored, ranTo};
+ghost use Rattle.insn_locator.specs.Steps.{firstValue, Tried, GoesOn, EntryIn, ReadyOn, climbs, RunPre, stored, ranTo};
 
 // The first method of a slot, where its share is inside.
 enum First {
@@ -55,11 +58,22 @@ fn from_of(start: u32, confirmed: u32) -> u32
     if confirmed == 0 { start } else { confirmed }
 }
 
-// The answer of an entry whose slot is not free: its method's last confirmed offset is noted. Past the method nothing is walked.
-fn confirm(buf: &[u8], start: u32, end: u32, slot: u32, m: usize, off: u32, last: &mut [u32]) -> u32
-    ensures { λ r.
-        let before = now (last .entry) in
-        ⌜ record { answer = r; last = now (last .exit) } ≡ tried (now (buf .entry)) (pair start end) before slot m off ⌝ }
+// The answer of an entry whose slot is not free. Past the method nothing is walked. Noted for the method is the offset of a confirmed entry and, onward,
+// where the walk to any other stands.
+fn confirm(
+    buf: &[u8],
+    start: u32,
+    end: u32,
+    slot: u32,
+    m: usize,
+    off: u32,
+    onward: bool,
+    last: &mut [u32],
+) -> u32
+    ensures answers { λ r.
+        let goal = tried (now (buf .entry)) (pair start end) (now (last .entry)) slot m off in
+        ⌜ Tried onward goal (record { answer = r; last = now (last .exit) }) ⌝ }
+    ensures goes_on { λ r. ⌜ (onward ≡ true → GoesOn (now (buf .entry)) start m off (now (last .entry)) (now (last .exit))) ⌝ }
 {
     if end <= off {
         return 0;
@@ -73,7 +87,43 @@ fn confirm(buf: &[u8], start: u32, end: u32, slot: u32, m: usize, off: u32, last
         words::put(last, m, off);
         return slot;
     }
+    if onward {
+        let at = walked.at as u32;
+        words::put(last, m, at);
+    }
     0
+}
+
+// The answer of one entry. `last` has for each method its last confirmed offset or, onward, where its walk stands; 0 for none.
+fn locate_entry(
+    buf: &[u8],
+    base: u32,
+    slots: &[u32],
+    starts: &[u32],
+    shares: &[u32],
+    off: u32,
+    onward: bool,
+    last: &mut [u32],
+) -> Entry
+    ensures answers { λ r.
+        let T = tables base (now (slots .entry)) (now (starts .entry)) (now (shares .entry)) in
+        ⌜ EntryIn onward (answeredAt (now (buf .entry)) T (now (last .entry)) off) r (now (last .exit)) ⌝ }
+    ensures goes_on { λ r.
+        let T = tables base (now (slots .entry)) (now (starts .entry)) (now (shares .entry)) in
+        ⌜ (onward ≡ true → ReadyOn (now (buf .entry)) T off (now (last .entry)) (now (last .exit))) ⌝ }
+{
+    let slot = slot_at(base, slots, off);
+    if slot == 0 {
+        return Entry::Word(0);
+    }
+    let First::Method(first) = first_of(shares, slot) else {
+        return Entry::Fault;
+    };
+    let m = first as usize;
+    let start_words::ReadPair::Both { start, end } = start_words::pair(starts, m) else {
+        return Entry::Fault;
+    };
+    Entry::Word(confirm(buf, start, end, slot, m, off, onward, last))
 }
 
 // The answer of one entry: its slot word where it is confirmed, else 0. `last` has the last confirmed offset of each method, 0 for none.
@@ -90,21 +140,27 @@ pub fn locate_one(
         let T = tables base (now (slots .entry)) (now (starts .entry)) (now (shares .entry)) in
         ⌜ entryOf r (now (last .exit)) ≡ answeredAt (now (buf .entry)) T (now (last .entry)) off ⌝ }
 {
-    let slot = slot_at(base, slots, off);
-    if slot == 0 {
-        return Entry::Word(0);
-    }
-    let First::Method(first) = first_of(shares, slot) else {
-        return Entry::Fault;
-    };
-    let m = first as usize;
-    let start_words::ReadPair::Both { start, end } = start_words::pair(starts, m) else {
-        return Entry::Fault;
-    };
-    Entry::Word(confirm(buf, start, end, slot, m, off, last))
+    locate_entry(buf, base, slots, starts, shares, off, false, last)
 }
 
-// The answers of the entries, one after another; false where a table does not hold what one needs.
+// Whether no entry is below the one before it.
+fn nondecreasing(entries: &[u32]) -> bool
+    ensures { λ r. ⌜ r ≡ climbs 0 (now (entries .entry)) ⌝ }
+{
+    let mut low = 0;
+    let mut i = 0;
+    while i < entries.len() {
+        let off = entries[i];
+        if off < low {
+            return false;
+        }
+        low = off;
+        i += 1;
+    }
+    true
+}
+
+// The answers of the entries, one after another; false where a table does not hold what one needs. Entries that do not fall are taken onward.
 fn locate_list(
     buf: &[u8],
     base: u32,
@@ -112,10 +168,12 @@ fn locate_list(
     starts: &[u32],
     shares: &[u32],
     entries: &[u32],
+    onward: bool,
     last: &mut [u32],
     answers: &mut [u32],
 ) -> bool
-    requires { ⌜ length (now entries) ≤ length (now answers) ⌝ }
+    requires { let T = tables base (now slots) (now starts) (now shares) in
+        ⌜ RunPre onward (now buf) T (now last) (now entries) (now answers) ⌝ }
     ensures { λ r.
         let T = tables base (now (slots .entry)) (now (starts .entry)) (now (shares .entry)) in
         let run = locateFrom (now (buf .entry)) T (now (last .entry)) (now (entries .entry)) in
@@ -123,8 +181,16 @@ fn locate_list(
 {
     let mut i = 0;
     while i < entries.len() {
-        let Entry::Word(word) = locate_one(buf, base, slots, starts, shares, entries[i], last)
-        else {
+        let Entry::Word(word) = locate_entry(
+            buf,
+            base,
+            slots,
+            starts,
+            shares,
+            entries[i],
+            onward,
+            last,
+        ) else {
             return false;
         };
         answers[i] = word;
@@ -133,7 +199,8 @@ fn locate_list(
     true
 }
 
-// The answer of each entry: its slot word where it is confirmed, else 0.
+// The answer of each entry: its slot word where it is confirmed, else 0. A list that does not fall is linear: the further words then hold where
+// each method's walk stands. Its answers are those of lists with each entry alone, and with the tables of a build no list is refused 15.
 pub fn locate(
     file: &[u8],
     base: u32,
@@ -150,6 +217,11 @@ pub fn locate(
         let after = locateWords (now (further .exit)) (now (answers .exit)) in
         let o = locateOut (now (file .entry)) T (now (entries .entry)) (length (before .answers)) (length (before .further)) in
         ⌜ Located o r before after ⌝ }
+    ensures alone { λ r.
+        let T = tables base (now (slots .entry)) (now (starts .entry)) (now (shares .entry)) in
+        let before = locateWords (now (further .entry)) (now (answers .entry)) in
+        let after = locateWords (now (further .exit)) (now (answers .exit)) in
+        ⌜ StandsAlone (now (file .entry)) T (now (entries .entry)) r before after ⌝ }
 {
     words::clear(further);
     words::clear(answers);
@@ -163,6 +235,7 @@ pub fn locate(
     if further.len() < n {
         return refusal::Answer::Refused(refusal::Refusal::LentTooShort);
     }
+    let onward = nondecreasing(entries);
     let all = locate_list(
         file,
         base,
@@ -170,10 +243,11 @@ pub fn locate(
         starts,
         shares,
         entries,
+        onward,
         &mut further[..n],
         answers,
     );
-    words::clear(further); // the last confirmed offsets end with the call
+    words::clear(further); // what they hold ends with the call
     if all {
         return refusal::Answer::Done(entries.len());
     }

@@ -2,8 +2,8 @@
 ghost use mathlib.Core.Path.{_≡_};
 ghost use Prim.Native.Nat.{_<_, min};
 ghost use lib.ListN.{length};
-ghost use Rattle.insn_locator.specs.Walk.{step, walk};
-ghost use Rattle.insn_locator.specs.Steps.{AtZero, PayloadAt, nextOf, walkedOf};
+ghost use Rattle.insn_locator.specs.Walk.{step};
+ghost use Rattle.insn_locator.specs.Steps.{AtZero, PayloadAt, nextOf, Walks};
 
 // Where a walk goes on.
 enum Advance {
@@ -11,10 +11,11 @@ enum Advance {
     Stuck,
 }
 
-// Whether a walk lands on its target, and how many steps it took.
+// Whether a walk lands on its target, how many steps it took, and where it stands: the last place of it that is not past the target.
 pub(crate) struct Walked {
     pub lands: bool,
     pub steps: usize,
+    pub at: usize,
 }
 
 // The offset after a payload of this length, where all of it is inside.
@@ -78,10 +79,11 @@ fn nearer(to: usize, len: usize) -> usize
 
 // The walk from start to end. One bound, target or file's end, is all that a turn tests besides the opcode.
 pub(crate) fn walk(buf: &[u8], start: u32, end: u32) -> Walked
-    ensures { λ r. ⌜ walkedOf r ≡ walk (now (buf .entry)) start end ⌝ }
+    ensures { λ r. ⌜ Walks (now (buf .entry)) start end r ⌝ }
 {
     let to = end as usize;
     let bound = nearer(to, buf.len());
+    let mut at = start as usize;
     let mut pos = start as usize;
     let mut steps: usize = 0;
     while pos < bound {
@@ -89,8 +91,10 @@ pub(crate) fn walk(buf: &[u8], start: u32, end: u32) -> Walked
             return Walked {
                 lands: false,
                 steps: steps + 1,
+                at: pos,
             };
         };
+        at = pos;
         pos = next;
         steps += 1;
     }
@@ -98,10 +102,19 @@ pub(crate) fn walk(buf: &[u8], start: u32, end: u32) -> Walked
         return Walked {
             lands: false,
             steps: steps + 1, // outside the file
+            at: pos,
+        };
+    }
+    if pos == to {
+        return Walked {
+            lands: true,
+            steps: steps,
+            at: pos,
         };
     }
     Walked {
-        lands: pos == to,
+        lands: false,
         steps: steps,
+        at: at,
     }
 }

@@ -30,11 +30,13 @@ ghost use Rattle.code_item_scan.specs.Scan.{asked, scanOut};
 ghost use Rattle.code_item_scan.specs.Answers.{hitWords, hitRoomOf, Gives as GivesScan};
 ghost use Rattle.insn_locator.specs.Locate.{locateOut};
 ghost use Rattle.insn_locator.specs.Answers.{tables, locateWords, Located};
+ghost use Rattle.insn_locator.specs.Alone.{StandsAlone};
 ghost use Rattle.slot_listing.specs.Listing.{listOut};
 ghost use Rattle.completeness.specs.Completeness.{findWords, callOf, Demand3};
 ghost use Rattle.findrefs.specs.Find.{lengthsOf, findOut};
 ghost use Rattle.findrefs.specs.Gives.{replyOf, GivesFind};
 ghost use Rattle.findrefs.specs.Region.{NeverOutside};
+ghost use Rattle.findrefs.specs.Alone.{StandAlone};
 ghost use Rattle.findrefs.specs.declared.Found.{Found as AFound};
 ghost use Rattle.ringlinden.specs.Header.{headerOf};
 ghost use Rattle.ringlinden.specs.Told.{Told, ofAnswer, ofMethodGroups, ofStringMap, ofStringText, ofCodeTable, ofFound};
@@ -359,6 +361,12 @@ pub extern "C" fn ringlinden_locate(
         let after = locateWords (now (further .exit)) (now (answers .exit)) in
         let outcome = locateOut (now (file .entry)) T (now (entries .entry)) (length (before .answers)) (length (before .further)) in
         ⌜ Told ofAnswer (λ (a : AnAnswer). Located outcome a before after) (r ∷ now (count .exit) ∷ []) ⌝ }
+    ensures alone { λ r.
+        let T = tables base (now (slots .entry)) (now (starts .entry)) (now (shares .entry)) in
+        let before = locateWords (now (further .entry)) (now (answers .entry)) in
+        let after = locateWords (now (further .exit)) (now (answers .exit)) in
+        ⌜ Told ofAnswer (λ (a : AnAnswer). StandsAlone (now (file .entry)) T (now (entries .entry)) a before after)
+        (r ∷ now (count .exit) ∷ []) ⌝ }
 {
     let answer = insn_locator::locate(file, base, slots, starts, shares, entries, further, answers);
     c_answers::tell(answer, count)
@@ -381,7 +389,7 @@ pub extern "C" fn ringlinden_list_slot(
     c_answers::tell(listed, count)
 }
 
-// Build, scan and locate in one, with demand 3 as `findrefs::find` has it, and never 12.
+// Build, scan and locate in one, with demand 3 as `findrefs::find` has it, each entry by itself, and never 12 or 15.
 #[no_mangle]
 pub extern "C" fn ringlinden_find(
     file: &[u8],
@@ -423,6 +431,13 @@ pub extern "C" fn ringlinden_find(
     ensures never_outside { λ r.
         let told = r ∷ now («region_start» .exit) ∷ now («region_end» .exit) ∷ now (hits .exit) ∷ [] in
         ⌜ Told ofFound (λ (a : AFound). NeverOutside (now (file .entry)) a) told ⌝ }
+    ensures alone { λ r.
+        let left = tableWords (now (starts .exit)) (now (triples .exit)) (now (slots .exit)) (now (shares .exit)) in
+        let after = findWords left (hitWords (now (offs .exit)) (now (marks .exit)))
+        (locateWords (now (further .exit)) (now (answers .exit))) in
+        let call = callOf (now (file .entry)) (headerOf (now (header .entry))) kind (now (wanted .entry)) in
+        let told = r ∷ now («region_start» .exit) ∷ now («region_end» .exit) ∷ now (hits .exit) ∷ [] in
+        ⌜ Told ofFound (λ (a : AFound). StandAlone call a after) told ⌝ }
 {
     let answer = findrefs::find(
         file,

@@ -27,7 +27,8 @@ use Rattle.completeness.proofs.Tried.{its-number}
 use Rattle.completeness.proofs.Demand.{build-is}
 use Rattle.completeness.proofs.Enough.{codes-most, table-enough, enough-suffices}
 use Rattle.findrefs.specs.Find.{lengthsOf, Find, searchOut, searchOf, findOut}
-use Rattle.findrefs.proofs.Promised.{found-number, suffices-not-four}
+use Rattle.findrefs.proofs.Laws.{found-number}
+use Rattle.findrefs.proofs.Promised.{suffices-not-four}
 use Rattle.room.specs.Enough.{buildRoom}
 use Rattle.room.specs.Laws.{Longer, EnoughSupposed}
 use Rattle.room.proofs.Finder.{find-is}

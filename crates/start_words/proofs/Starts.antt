@@ -13,11 +13,11 @@ use mathlib.Core.Bool.{Bool, true, false}
 use mathlib.Core.List.{List}
 use mathlib.Core.Option.{none, some}
 use lib.Dec.{ltb}
-use lib.ListN.{length, getD, set, length-set, length-append, length-replicate}
+use lib.ListN.{length, getD, set, length-set, length-replicate}
 use lib.Seq.{getD-set-same, getD-set-other, take-at, take-all}
 use borrow.Author.Tests.{lt-ltb, le-ltb, ltb-true, ltb-false}
 use Rattle.words.specs.Padded.{zeros, padded}
-use Rattle.words.proofs.Padded.{padded-at, padded-set, padded-zeros}
+use Rattle.words.proofs.Padded.{padded-longer, padded-at, padded-set, padded-zeros}
 use Rattle.words.proofs.Shared.{case}
 use Rattle.start_words.specs.Starts.{pairsIn, pairCount, Pair, pair, pairOf, firstStarts, withArray, noStarts}
 
@@ -44,14 +44,10 @@ same-pair : (ws vs : List ℕ) (m : ℕ) → length vs ≡ length ws → getD vs
 unfolding pairOf
 same-pair ws vs m l p q = rw (l, p, q)
 
-longer : (n : ℕ) (ws : List ℕ) → length ws ≤ length (padded n ws)
-unfolding padded
-longer n ws = omega (arith, length-append ws (zeros (n - length ws)))
-
 pub pair-padded : (ws : List ℕ) (m n : ℕ) (a : Pair) → pairOf ws m ≡ some a → pairOf (padded n ws) m ≡ some a
 pair-padded ws m n a e =
     let h : m < pairCount ws = pair-inside ws m a e in
-    pair-there (padded n ws) m (omega (arith, longer n ws))
+    pair-there (padded n ws) m (omega (arith, padded-longer n ws))
     ∙ ap₂ (λ (x y : ℕ). some (pair x y)) (padded-at n ws (2 * m)) (padded-at n ws (2 * m + 1))
     ∙ sym (pair-there ws m h) ∙ e
 
@@ -109,7 +105,7 @@ module _ (ws : List ℕ) (m a e : ℕ) where
 
 pub with-padded : (ws : List ℕ) (m a e n : ℕ) → m < pairCount ws → withArray (padded n ws) m a e ≡ padded n (withArray ws m a e)
 with-padded ws m a e n h =
-    with-there (padded n ws) m a e (omega (arith, longer n ws))
+    with-there (padded n ws) m a e (omega (arith, padded-longer n ws))
     ∙ ap (λ (l : List ℕ). set l (2 * m + 1) e) (padded-set n ws (2 * m) a (omega arith))
     ∙ padded-set n (set ws (2 * m) a) (2 * m + 1) e (omega (arith, length-set ws (2 * m) a))
     ∙ ap (padded n) (sym (with-there ws m a e h))

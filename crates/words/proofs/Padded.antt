@@ -1,6 +1,6 @@
 -- Laws of lent words. Each holds since zeros after a list neither change what is read nor are changed by what is written before them.
---     padded     length-padded, padded-none, padded-full, padded-at, padded-set, padded-push, padded-part, padded-zeros, padded-front, sets-zeros
---     zeros      cleared-again
+--     padded     length-padded, padded-longer, padded-none, padded-full, padded-at, padded-set, padded-push, padded-part, padded-zeros, padded-front, sets-zeros
+--     zeros      getD-zeros, cleared-again
 --     part       length-part
 --     stretch    length-stretch, stretch-padded, lent-fill
 -- Assumes nothing.
@@ -17,6 +17,10 @@ pub length-padded : (n : ℕ) (xs : List ℕ) → length xs ≤ n → length (pa
 unfolding padded
 length-padded n xs h = simp (length-append, length-replicate) (omega arith)
 
+pub padded-longer : (n : ℕ) (xs : List ℕ) → length xs ≤ length (padded n xs)
+unfolding padded
+padded-longer n xs = omega (arith, length-append xs (zeros (n - length xs)))
+
 pub padded-none : (n : ℕ) → padded n [] ≡ zeros n
 unfolding padded
 padded-none n =
@@ -30,7 +34,7 @@ padded-full n xs h =
     let z : n - length xs ≡ 0 = omega arith in
     rw (z, append-nil)
 
-getD-zeros : (n i : ℕ) → _≡_ {A = ℕ} (getD (zeros n) i 0) 0
+pub getD-zeros : (n i : ℕ) → _≡_ {A = ℕ} (getD (zeros n) i 0) 0
 getD-zeros zero i = refl
 getD-zeros (suc n) zero = refl
 getD-zeros (suc n) (suc i) = getD-zeros n i

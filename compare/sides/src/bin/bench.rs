@@ -3,12 +3,13 @@
 //!   bench list FILE [PART..]   the items' names
 //!   bench once FILE [PART..]   each item, ours and then the Rust, once inside the function `measured`: for callgrind
 //!   bench uses FILE KIND INDEX the uses of an index, as a whole process of ours
+//!   bench misses [MOST_BYTES]  lists of misses alone, over files of up to that many bytes, as a table and what it shows
 //! With parts, only the items whose name has one of them.
 
 use sides::case::*;
-use sides::inputs::file_of_names;
+use sides::inputs::{file_of_names, MISSED};
 use sides::ours::{self, Buffers};
-use sides::synth::Dex;
+use sides::synth::{leb, put, Dex};
 use sides::theirs;
 use source::asc_core::findrefs::locator::insn_locator::InsnLocator;
 use source::asc_core::findrefs::locator::{method_locator, string_locator, type_locator};
@@ -338,6 +339,156 @@ fn time(item: &mut Item) -> (f64, f64) {
     (median(ours), median(rust))
 }
 
+/// The index that a scan finds within each of the instructions `MISSED`, at their second byte.
+const MISSED_INDEX: u32 = 0x1305;
+
+/// Where the array of `missed` begins: with a block.
+const ARRAY: usize = 192;
+
+/// A file with one method, whose array is n bytes of `MISSED`. By class definition: the method's id at 0x70, the class at 0x78, its data at 0x98.
+fn missed(n: usize) -> Dex {
+    let mut file = vec![0; ARRAY];
+    for (at, word) in [(0x58, 1), (0x5c, 0x70), (0x60, 1), (0x64, 0x78), (0x78 + 24, 0x98), (ARRAY - 4, n as u32 / 2)] {
+        put(&mut file, at, word);
+    }
+    let mut data = Vec::new();
+    [0, 0, 1, 0, 0, 0, ARRAY as u64 - 16].iter().for_each(|&x| leb(&mut data, x));
+    file[0x98..0x98 + data.len()].copy_from_slice(&data);
+    file.extend(MISSED.iter().cycle().take(n));
+    Dex::of_file(file)
+}
+
+/// A search in which nothing is confirmed. Both sides give how many entries are.
+struct Misses {
+    name: &'static str,
+    entries: usize,
+    ours: Side,
+    rust: Side,
+}
+
+/// The finder and locate over what its build returns, and locate over tables of two methods whose blocks are in turn. One of them starts
+/// with the array, the other one unit later.
+fn misses_of(n: usize) -> Vec<Misses> {
+    let d = missed(n);
+    let dex: &'static DEX = leak(theirs::dex_of(&d.case(CODE_TABLE)));
+    let (buf, header): (&'static [u8], _) = (&dex.buf, d.numbers);
+    let (blocks, hits, wanted) = (n.div_ceil(16), n / MISSED.len() - 1, [MISSED_INDEX]);
+    // Tables and entries by build and scan alone: locate may take long, and is measured only.
+    let ask = |mut case: Case, lent: &[usize]| {
+        case.lent.iter_mut().zip(lent).for_each(|(to, &n)| *to = n as u32);
+        let mut filled = Buffers::of(&case);
+        ours::call(&case, &mut filled);
+        assert_eq!(filled.refusal, 0);
+        filled
+    };
+    let table = ask(d.case(CODE_TABLE), &[2, 3, blocks, 0]);
+    let [starts, _, slots, _] = table.outs;
+    let mut scan = d.case(SCAN);
+    scan.numbers[13..].copy_from_slice(&[table.numbers[0] as u32, table.numbers[1] as u32, 1]);
+    scan.lists[0] = wanted.to_vec();
+    let scanned = ask(scan, &[hits, hits]);
+    assert_eq!((&table.numbers[..2], scanned.numbers[0]), (&[ARRAY, buf.len()][..], hits));
+    let [entries, ..] = scanned.outs;
+    assert!(entries.iter().zip(0..).all(|(&e, k)| e as usize == ARRAY + 1 + MISSED.len() * k));
+    let mut lent = [2, 3, blocks, 0, hits, hits, 1, hits].map(|n| vec![0u32; n]);
+    let confirmed = |answers: &[u32]| answers.iter().filter(|&&w| w != 0).count();
+    let finder = Misses {
+        name: "finder, one method",
+        entries: hits,
+        ours: Box::new(move || {
+            assert_eq!(ours::find(buf, &header, 1, black_box(&wanted), &mut lent).0, 0);
+            confirmed(&lent[7])
+        }),
+        rust: Box::new(move || {
+            let mut l = InsnLocator::new(dex);
+            l.parse();
+            let mut s = CodeItemScanner::new(&l);
+            let mut asked = HashMap::from([("string".to_owned(), vec![Some(wanted.to_vec())])]);
+            s.scan(&mut asked, true, &mut l);
+            asked["string"].iter().flatten().count()
+        }),
+    };
+    let located = |name: &'static str, slots: Vec<u32>, starts: Vec<u32>| {
+        let mut case = Case::new(LOCATE);
+        case.file = buf.to_vec();
+        case.numbers[13] = (ARRAY / 16) as u32;
+        case.lent[..2].copy_from_slice(&[starts.len() as u32 / 2, hits as u32]);
+        let mut rust = theirs::insn_locator(dex, case.numbers[13], &slots, &starts, &[]);
+        let given = entries.clone();
+        case.lists = [slots, starts, vec![], entries.clone()];
+        let mut lent = Buffers::of(&case);
+        Misses {
+            name,
+            entries: hits,
+            ours: Box::new(move || {
+                ours::call(black_box(&case), &mut lent);
+                assert_eq!(lent.refusal, 0);
+                confirmed(&lent.outs[1])
+            }),
+            rust: Box::new(move || rust.locate(black_box(&given)).iter().flatten().count()),
+        }
+    };
+    let (start, end) = (ARRAY as u32, buf.len() as u32);
+    let in_turn = [1, 2].into_iter().cycle().take(blocks).collect();
+    vec![
+        finder,
+        located("locate, one method", slots, starts),
+        located("locate, two methods, block by block", in_turn, vec![start, end, start + 2, end]),
+    ]
+}
+
+/// Seconds of a run, the median of nine, of three where one takes above a fifth of a second, and the only one where it takes above five.
+/// Nothing may be confirmed.
+fn seconds(side: &mut Side) -> f64 {
+    let mut run = || {
+        let t = Instant::now();
+        assert_eq!(black_box(side()), 0);
+        t.elapsed().as_secs_f64()
+    };
+    let first = run();
+    let more = if first > 5.0 { 0 } else if first > 0.2 { 2 } else { 8 };
+    median([first].into_iter().chain((0..more).map(|_| run())).collect())
+}
+
+/// A side is not run where it would take longer than that, in seconds, if its time grew by the square of the size.
+const LONGEST: f64 = 20.0;
+
+/// The table, search by search, and below it what a byte takes at the sizes that were run.
+fn misses(most: usize) {
+    let sizes = [64 << 10, 256 << 10, 1 << 20, LARGEST - ARRAY];
+    let mut rows: [Vec<String>; 3] = Default::default();
+    // Of each search and side the sizes that were run, and the seconds.
+    let mut times: [[Vec<(f64, f64)>; 2]; 3] = Default::default();
+    for n in sizes.into_iter().filter(|&n| n <= most) {
+        for (search, mut item) in misses_of(n).into_iter().enumerate() {
+            let mut row = format!("| {} | {n} | {} |", item.name, item.entries);
+            for (side, run) in [&mut item.ours, &mut item.rust].into_iter().enumerate() {
+                let before = &mut times[search][side];
+                if before.last().is_some_and(|(m, t)| t * (n as f64 / m).powi(2) > LONGEST) {
+                    row += " not run | |";
+                    continue;
+                }
+                let t = seconds(run);
+                before.push((n as f64, t));
+                row += &format!(" {:.3} | {:.2} |", t * 1e3, t * 1e9 / n as f64);
+            }
+            rows[search].push(row);
+        }
+    }
+    println!("| search | bytes of the array | entries | ours | ns a byte | the Rust | ns a byte |");
+    println!("|---|---:|---:|---:|---:|---:|---:|");
+    rows.iter().flatten().for_each(|row| println!("{row}"));
+    println!();
+    for (side, name) in ["Ours", "The Rust"].into_iter().enumerate() {
+        let of_side = || times.iter().map(|sides| &sides[side]);
+        let a_byte: Vec<f64> = of_side().flatten().map(|(n, t)| t * 1e9 / n).collect();
+        let growth = of_side().flat_map(|list| list.windows(2)).map(|w| (w[1].1 / w[1].0) / (w[0].1 / w[0].0)).reduce(f64::max);
+        let of = |f: fn(f64, f64) -> f64| a_byte.iter().copied().reduce(f).unwrap_or_default();
+        let grows = growth.map_or(String::new(), |g| format!(", from one size to the next at most {g:.1} times as much"));
+        println!("{name}: {:.2} to {:.2} ns a byte{grows}.", of(f64::min), of(f64::max));
+    }
+}
+
 #[no_mangle]
 #[inline(never)]
 fn measured(side: &mut Side) -> usize {
@@ -389,6 +540,8 @@ fn main() {
             }
         }
         ["uses", file, kind, index] => uses(file, kind, index.parse().expect("index")),
-        _ => panic!("usage: bench time|list|once|uses FILE .."),
+        ["misses"] => misses(LARGEST),
+        ["misses", most] => misses(most.parse().expect("bytes")),
+        _ => panic!("usage: bench time|list|once|uses FILE .., or bench misses [MOST_BYTES]"),
     }
 }

@@ -2,7 +2,7 @@
 //! Usage: replay FOLDER SAMPLE; writes FOLDER/data/cases and FOLDER/stdout.
 
 use sides::case::*;
-use sides::inputs::{array_ends, payloads, Inputs};
+use sides::inputs::{array_ends, payloads, walks_that_go_on, Inputs};
 use sides::{expected, silence, Expected};
 use std::collections::HashSet;
 use std::fs;
@@ -15,10 +15,11 @@ const DOMAIN: usize = 240;
 const EACH_REFUSAL: usize = 12;
 const BYTES: usize = 68_000;
 
-/// Of the cases that every run has, one in so many of locate's with payloads, and of those around the ends of arrays; they come before, and
-/// don't count towards the others.
+/// Of the cases that every run has, one in so many of locate's with payloads, of those around the ends of arrays, and of locate's with walks that go
+/// on from entry to entry; they come before, and don't count towards the others.
 const PAYLOADS: usize = 201;
 const ENDS: usize = 53;
+const WALKS: usize = 1511;
 
 /// One more than the greatest refusal.
 const REFUSALS: usize = 17;
@@ -35,7 +36,9 @@ fn main() {
         let mut bytes = 0;
         let payloads = if op == LOCATE { payloads(op) } else { vec![] };
         let ends = if matches!(op, CODE_TABLE | LOCATE) { array_ends(op) } else { vec![] };
-        for case in payloads.iter().step_by(PAYLOADS).chain(ends.iter().step_by(ENDS)).filter(|c| replay_takes(c)) {
+        let walks = if op == LOCATE { walks_that_go_on() } else { vec![] };
+        let always = payloads.iter().step_by(PAYLOADS).chain(ends.iter().step_by(ENDS)).chain(walks.iter().step_by(WALKS));
+        for case in always.filter(|c| replay_takes(c)) {
             let (Expected::Domain(o) | Expected::Off(o)) = expected(case) else {
                 panic!("the Rust differs from SPEC: see run --op {}", OPS[op as usize - 1])
             };

@@ -1,7 +1,7 @@
 -- A slot word below the mark of a share is a method plus one; else its share is inside or not.
 -- Assumes nothing.
 use native.Mathlib.Omega.{arith}
-use Rattle.insn_locator.proofs.Tables.{first-single, first-outside, first-shared}
+use Rattle.insn_locator.proofs.Slots.{first-single, first-outside, first-shared}
 use borrow.Author.Needs.{needs}
 use Rattle.insn_locator.proofs.first_of.Statement.{statement}
 use Rattle.insn_locator.proofs.first_of.Tie as tie

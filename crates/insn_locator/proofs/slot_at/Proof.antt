@@ -1,7 +1,7 @@
 -- A block below the base has no slot, and one past the slots reads as 0.
 -- Assumes nothing.
 use mathlib.Core.Path.{_∙_}
-use Rattle.insn_locator.proofs.Tables.{slot-below, slot-from}
+use Rattle.insn_locator.proofs.Slots.{slot-below, slot-from}
 use borrow.Author.Needs.{needs}
 use Rattle.insn_locator.proofs.slot_at.Statement.{statement}
 use Rattle.insn_locator.proofs.slot_at.Tie as tie

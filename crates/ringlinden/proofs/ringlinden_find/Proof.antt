@@ -48,7 +48,10 @@ returns c =
       record { answer = q .result; handed = told; right = rw same at (q .ensures .0) },
       (
         record { answer = q .result; handed = told; right = rw same at (q .ensures .1 .0) },
-        record { answer = q .result; handed = told; right = q .ensures .1 .1 },
+        (
+          record { answer = q .result; handed = told; right = q .ensures .1 .1 .0 },
+          record { answer = q .result; handed = told; right = rw same at (q .ensures .1 .1 .1) },
+        ),
       ),
     )
 

@@ -18,7 +18,10 @@ same-length-2 c = search needs
 returns : tie.Need-returns
 returns c =
     let at-locate = c .before .before .before .before .before .before in
-    record { answer = _; handed = c .tell .ensures; right = at-locate .locate .ensures }
+    let q = at-locate .locate in (
+      record { answer = q .result; handed = c .tell .ensures; right = q .ensures .0 },
+      record { answer = q .result; handed = c .tell .ensures; right = q .ensures .1 },
+    )
 
 pub ringlinden-locate-spec : {M : Type 1} → statement M
 ringlinden-locate-spec =

@@ -39,7 +39,7 @@ same-length-3 c = search needs
 returns : tie.Need-returns
 returns c =
     let located = c .before .before .before .before .before .before .before in
-    hits-located _ _ _ _ _ (c .before .done .given .1) (located .locate .ensures)
+    hits-located _ _ _ _ _ (c .before .done .given .1) (located .locate .ensures .0)
 
 same-length-4 : tie.Need-same-length-4
 same-length-4 c = search needs
@@ -58,7 +58,7 @@ returns-2 c =
     let cleared = c .before .before .before .before .before .before in
     let refused = cleared .before .before .before in
     let located = refused .before .before .before .before .before .before in
-    hits-refused _ _ _ _ _ (refused .r .given .1) (located .locate .ensures) (cleared .clear .ensures) (c .before .before .clear2 .ensures)
+    hits-refused _ _ _ _ _ (refused .r .given .1) (located .locate .ensures .0) (cleared .clear .ensures) (c .before .before .clear2 .ensures)
 
 pub locate-hits-spec : {M : Type 1} → statement M
 locate-hits-spec =
