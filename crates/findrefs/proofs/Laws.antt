@@ -29,9 +29,10 @@ use Rattle.code_item_scan.specs.Scan.{Hit, offs, marks, asked}
 use Rattle.code_item_scan.specs.Answers.{hitRoomOf}
 use Rattle.insn_locator.specs.Answers.{tables}
 use Rattle.completeness.specs.Completeness.{FindWords, findWords}
-use Rattle.findrefs.specs.Find.{Lengths, lengthsOf, Search, searched, searchOut, Find, found, searchOf, findOut}
+use Rattle.region_search.specs.Search.{Search, searched, searchOut, searchWords, GivesSearch}
+use Rattle.findrefs.specs.Find.{Lengths, lengthsOf, Find, found, searchOf, findOut}
 use Rattle.findrefs.specs.Gives.{GivesFind}
-use Rattle.findrefs.specs.Steps.{four, Cleared, searchWords, GivesSearch, FoundIn}
+use Rattle.findrefs.specs.Steps.{four, Cleared, FoundIn}
 use Rattle.findrefs.specs.declared.Found.{Found}
 use Rattle.findrefs.specs.declared.Found.the-variants as r
 

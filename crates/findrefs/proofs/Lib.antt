@@ -1,4 +1,3 @@
-pub mod Searched
 pub mod Laws
 pub mod Promised
 pub mod Region

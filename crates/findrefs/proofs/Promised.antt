@@ -32,7 +32,8 @@ use Rattle.completeness.proofs.Room.{build-holds, scan-holds, locate-holds}
 use Rattle.completeness.proofs.Enough.{lentOf}
 use Rattle.completeness.proofs.Promise.{Reports, keeps}
 use Rattle.findrefs.proofs.Laws.{searched-number, found-number}
-use Rattle.findrefs.specs.Find.{Lengths, lengthsOf, searchOut, Find, found, searchOf, builtTables, findOut}
+use Rattle.region_search.specs.Search.{searchOut}
+use Rattle.findrefs.specs.Find.{Lengths, lengthsOf, Find, found, searchOf, builtTables, findOut}
 use Rattle.findrefs.specs.Gives.{replyOf, GivesFind}
 use Rattle.findrefs.specs.declared.Found.{Found}
 

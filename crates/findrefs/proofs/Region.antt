@@ -21,7 +21,8 @@ use Rattle.code_item_scan.specs.Scan.{offs, Asked, asked, HitRoom, scanOut}
 use Rattle.code_item_scan.proofs.Inside.{scan-never-12}
 use Rattle.insn_locator.specs.Locate.{Tables, locateAll, answersFrom, locateOut}
 use Rattle.completeness.specs.Completeness.{FindWords}
-use Rattle.findrefs.specs.Find.{Lengths, lengthsOf, Search, searchOut, Find, found, searchOf, findOut}
+use Rattle.region_search.specs.Search.{Search, searchOut}
+use Rattle.findrefs.specs.Find.{Lengths, lengthsOf, Find, found, searchOf, findOut}
 use Rattle.findrefs.specs.Gives.{GivesFind}
 use Rattle.findrefs.specs.Region.{NeverOutside}
 use Rattle.findrefs.specs.declared.Found.{Found}

@@ -26,7 +26,8 @@ use Rattle.code_item_scan.specs.Scan.{isIn, Hit, sought, hitsOf, offs, Scan, no
 use Rattle.code_item_scan.proofs.Listed.{Above, hits-above}
 use Rattle.code_item_scan.proofs.Listed.Above.{no-more}
 use Rattle.insn_locator.specs.Locate.{Tables, locateOut}
-use Rattle.findrefs.specs.Find.{Lengths, Search, searched, searchOut, Find, found, builtTables, searchOf, findOut}
+use Rattle.region_search.specs.Search.{Search, searched, searchOut}
+use Rattle.findrefs.specs.Find.{Lengths, Find, found, builtTables, searchOf, findOut}
 use Rattle.findrefs.proofs.Laws.{searched-number, found-number}
 
 -- ---- over the tables of a build that succeeds each offset of a rising list has an answer of its own, whatever is lent; and two builds of a file

@@ -6,14 +6,14 @@ use mathlib.Core.Bool.{cond}
 use lib.ListN.{length}
 use lib.Dec.{eqb}
 use Rattle.words.specs.Padded.{padded}
-use Rattle.refusal.specs.Outcomes.{Outcome}
 use Rattle.tinydex.specs.declared.DexHeader.{DexHeader}
 use Rattle.code_table.specs.Build.{Room, Build, noBuild, buildOut}
 use Rattle.code_table.specs.Answer.{roomOf}
-use Rattle.code_item_scan.specs.Scan.{Hit, offs, Asked, asked, HitRoom, scanOut}
+use Rattle.code_item_scan.specs.Scan.{Hit, asked, HitRoom}
 use Rattle.code_item_scan.specs.Answers.{hitRoomOf}
-use Rattle.insn_locator.specs.Locate.{Tables, locateOut}
+use Rattle.insn_locator.specs.Locate.{Tables}
 use Rattle.insn_locator.specs.Answers.{tables}
+use Rattle.region_search.specs.Search.{Search, searchOut}
 use Rattle.completeness.specs.Completeness.{FindWords}
 
 -- how many words are lent
@@ -30,27 +30,6 @@ lengthsOf w = record {
   further = length (w .located .further);
   answers = length (w .located .answers);
 }
-
--- ---- scan and locate: the refusal's number (0 for success), the hits, and an answer for each
-pub record Search : Type 0 where
-  pub number : ℕ
-  pub hits : List Hit
-  pub answers : List ℕ
-
--- where locate refuses no hit is left
-abbrev pub searched : List Hit → Outcome → Search
-searched hits A =
-    cond (eqb (A .number) 0)
-    (record { number = 0; hits = hits; answers = A .list })
-    (record { number = A .number; hits = []; answers = A .list })
-
--- over any tables; further and answers count the words for last confirmed offsets and for answers
-unfoldable pub searchOut : List ℕ → Asked → Tables → HitRoom → ℕ → ℕ → Search
-searchOut s A T room further answers =
-    let S = scanOut s A room in
-    cond (eqb (S .number) 0)
-    (searched (S .hits) (locateOut s T (offs (S .hits)) answers further))
-    (record { number = S .number; hits = S .hits; answers = [] })
 
 -- ---- the finder
 pub record Find : Type 0 where

@@ -1,4 +1,4 @@
--- What the finder's inner steps leave: clearing, scan and locate over a build's tables, and the tables where these refuse.
+-- What the finder's inner steps leave: clearing, and the build's tables where the search refuses.
 -- The definitions that the public contract cites are in Find and Gives.
 -- Assumes nothing.
 use Prim.Native.Nat.{ℕ}
@@ -8,17 +8,11 @@ use mathlib.Core.List.{List}
 use lib.ListN.{length}
 use lib.Dec.{eqb}
 use Rattle.words.specs.Padded.{zeros, padded}
-use Rattle.refusal.specs.Refusals.{answerNumber, answerCount}
-use Rattle.refusal.specs.Outcomes.{Outcome}
-use Rattle.refusal.specs.declared.Answer.{Answer}
-use Rattle.refusal.specs.declared.Answer.the-variants as a
 use Rattle.code_table.specs.declared.Region.{Region}
 use Rattle.code_item_scan.specs.Scan.{offs, marks}
-use Rattle.code_item_scan.specs.Answers.{HitWords}
-use Rattle.insn_locator.specs.Answers.{LocateWords}
+use Rattle.region_search.specs.Search.{Search}
 use Rattle.completeness.specs.Completeness.{FindWords}
 use Rattle.findrefs.specs.declared.Found.{Found}
-use Rattle.findrefs.specs.Find.{Search}
 use Rattle.findrefs.specs.Gives.{foundNumber, foundRegion, foundHits}
 
 -- ---- four slices cleared
@@ -36,40 +30,6 @@ pub record Cleared (before after : Four) : Type 0 where
   pub second : after .second ≡ zeros (length (before .second))
   pub third : after .third ≡ zeros (length (before .third))
   pub fourth : after .fourth ≡ zeros (length (before .fourth))
-
--- ---- scan and locate
-pub record SearchWords : Type 0 where
-  pub hits : HitWords
-  pub located : LocateWords
-
-abbrev pub searchWords : HitWords → LocateWords → SearchWords
-searchWords hits located = record { hits = hits; located = located }
-
-pub record GivesSearch (o : Search) (r : Answer) (before after : SearchWords) : Type 0 where
-  pub number : answerNumber r ≡ o .number
-  pub count : answerCount r ≡ length (o .hits)
-  pub offs : after .hits .offs ≡ padded (length (before .hits .offs)) (offs (o .hits))
-  pub marks : after .hits .marks ≡ padded (length (before .hits .marks)) (marks (o .hits))
-  pub further : after .located .further ≡ zeros (length (before .located .further))
-  pub answers : after .located .answers ≡ padded (length (before .located .answers)) (o .answers)
-
--- what a refused locate clears, and does not count
-abbrev pub kept : Answer → List ℕ → List ℕ
-kept (a.Done n) ws = ws
-kept (a.Refused r) ws = zeros (length ws)
-
-abbrev pub keptCount : Answer → ℕ → ℕ
-keptCount (a.Done n) k = k
-keptCount (a.Refused r) k = 0
-
--- locate of k offsets
-pub record LocatesHits (o : Outcome) (k : ℕ) (r : Answer) (before after : SearchWords) : Type 0 where
-  pub number : answerNumber r ≡ o .number
-  pub count : answerCount r ≡ keptCount r k
-  pub offs : after .hits .offs ≡ kept r (before .hits .offs)
-  pub marks : after .hits .marks ≡ kept r (before .hits .marks)
-  pub further : after .located .further ≡ zeros (length (before .located .further))
-  pub answers : after .located .answers ≡ padded (length (before .located .answers)) (o .list)
 
 -- ---- the search over a build of the region g: a refused one, its number not 0, clears what was built
 abbrev pub unlessRefused : ℕ → List ℕ → List ℕ

@@ -8,23 +8,35 @@ ghost use Rattle.code_item_scan.specs.Scan.{asked};
 ghost use Rattle.code_item_scan.specs.Answers.{hitWords, hitRoomOf};
 ghost use Rattle.insn_locator.specs.Answers.{tables, locateWords};
 ghost use Rattle.completeness.specs.Completeness.{findWords, callOf, Demand3};
-ghost use Rattle.findrefs.specs.Find.{lengthsOf, searchOut, findOut};
+ghost use Rattle.region_search.specs.Search.{searchOut};
+ghost use Rattle.findrefs.specs.Find.{lengthsOf, findOut};
 ghost use Rattle.findrefs.specs.Gives.{GivesFind, replyOf};
 ghost use Rattle.findrefs.specs.Region.{NeverOutside};
 ghost use Rattle.findrefs.specs.Alone.{StandAlone};
-ghost use Rattle.findrefs.specs.Steps.{FoundIn};
+ghost use Rattle.findrefs.specs.Steps.{four, Cleared, FoundIn};
 use code_table::Built;
 use code_table::Region;
 use refusal::Answer;
 use refusal::Refusal;
 use tinydex::DexHeader;
 
-mod search;
-
 // The code region and how many entries the scan found; or a refusal.
 pub enum Found {
     Done { region: Region, hits: usize },
     Refused(Refusal),
+}
+
+// Four lent slices become zero.
+fn clear_four(a: &mut [u32], b: &mut [u32], c: &mut [u32], d: &mut [u32])
+    ensures { λ _.
+        let before = four (now (a .entry)) (now (b .entry)) (now (c .entry)) (now (d .entry)) in
+        let after = four (now (a .exit)) (now (b .exit)) (now (c .exit)) (now (d .exit)) in
+        ⌜ Cleared before after ⌝ }
+{
+    words::clear(a);
+    words::clear(b);
+    words::clear(c);
+    words::clear(d);
 }
 
 // The search over what a build returned. Where it refuses it clears that too.
@@ -54,7 +66,7 @@ fn found_in(
         let o = searchOut (now (file .entry)) A T room (length (now (further .entry))) (length (now (answers .entry))) in
         ⌜ FoundIn o region r before after ⌝ }
 {
-    match search::search(
+    match region_search::search(
         file,
         region,
         methods,
@@ -73,7 +85,7 @@ fn found_in(
             hits: n,
         },
         Answer::Refused(r) => {
-            search::clear_four(starts, triples, slots, shares);
+            clear_four(starts, triples, slots, shares);
             Found::Refused(r)
         }
     }
@@ -118,7 +130,7 @@ pub fn find(
 {
     match code_table::parse(file, header, starts, triples, slots, shares) {
         Built::Refused(r) => {
-            search::clear_four(offs, marks, further, answers);
+            clear_four(offs, marks, further, answers);
             Found::Refused(r)
         }
         Built::Done {

@@ -1,6 +1,5 @@
 // The C interface (include/ringlinden.h): each operation under a plain name, over lent slices. A function returns the refusal's
 // number, 0 for success; counts and places go through pointers, and are 0 on a refusal.
-mod c_answers;
 
 ghost use mathlib.Core.Path.{_≡_};
 ghost use mathlib.Core.List.{[], _∷_, _++_};
@@ -38,9 +37,9 @@ ghost use Rattle.findrefs.specs.Gives.{replyOf, GivesFind};
 ghost use Rattle.findrefs.specs.Region.{NeverOutside};
 ghost use Rattle.findrefs.specs.Alone.{StandAlone};
 ghost use Rattle.findrefs.specs.declared.Found.{Found as AFound};
-ghost use Rattle.ringlinden.specs.Header.{headerOf};
-ghost use Rattle.ringlinden.specs.Told.{Told, ofAnswer, ofMethodGroups, ofStringMap, ofStringText, ofCodeTable, ofFound};
-ghost use Rattle.ringlinden.specs.Group.{GroupAt};
+ghost use Rattle.c_answers.specs.Header.{headerOf};
+ghost use Rattle.c_answers.specs.Told.{Told, ofAnswer, ofMethodGroups, ofStringMap, ofStringText, ofCodeTable, ofFound};
+ghost use Rattle.c_answers.specs.Group.{GroupAt};
 
 // ---- groups
 

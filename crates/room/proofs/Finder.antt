@@ -24,7 +24,8 @@ use Rattle.code_table.specs.Build.{Build, buildOut}
 use Rattle.insn_locator.specs.Locate.{Tables, Answered, slotAt, firstOf, answeredBy, answered, consTo, andThen, locateFrom, locateAll, answersFrom}
 use Rattle.insn_locator.specs.Locate.{locateOut}
 use Rattle.insn_locator.specs.Answers.{tables}
-use Rattle.findrefs.specs.Find.{Lengths, Search, searched, searchOut, builtTables, found, searchOf, findOut}
+use Rattle.region_search.specs.Search.{Search, searched, searchOut}
+use Rattle.findrefs.specs.Find.{Lengths, builtTables, found, searchOf, findOut}
 use Rattle.room.specs.Laws.{LongerAll}
 use Rattle.room.proofs.Branches.{same-else, same-then}
 use Rattle.room.proofs.Codes.{build-more}

@@ -26,7 +26,8 @@ use Rattle.completeness.proofs.Outcomes.{Lent}
 use Rattle.completeness.proofs.Tried.{its-number}
 use Rattle.completeness.proofs.Demand.{build-is}
 use Rattle.completeness.proofs.Enough.{codes-most, table-enough, enough-suffices}
-use Rattle.findrefs.specs.Find.{lengthsOf, Find, searchOut, searchOf, findOut}
+use Rattle.region_search.specs.Search.{searchOut}
+use Rattle.findrefs.specs.Find.{lengthsOf, Find, searchOf, findOut}
 use Rattle.findrefs.proofs.Laws.{found-number}
 use Rattle.findrefs.proofs.Promised.{suffices-not-four}
 use Rattle.room.specs.Enough.{buildRoom}
