@@ -7,7 +7,7 @@ use Rattle.string_search.specs.Search.{searchFault}
 use Rattle.method_search.specs.Methods.{searchFor}
 use Rattle.name_filter.specs.Faults.{filterFault}
 use Rattle.request.proofs.Room.{sixteen-suffice, more-room as request-more}
-use Rattle.refs_program.proofs.TextRoom.{head-room, entry-room, refusal-room}
+use Rattle.listing_text.proofs.TextRoom.{head-room, entry-room, refusal-room}
 use Rattle.room.specs.Laws.{MoreRoom, NoFour}
 use Rattle.room.proofs.Grouped as g
 use Rattle.room.proofs.Searches as s

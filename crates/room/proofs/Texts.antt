@@ -12,8 +12,8 @@ use borrow.Author.Tests.{eqb-true, eqb-false}
 use Rattle.words.proofs.Shared.{case}
 use Rattle.refusal.specs.Outcomes.{Outcome, refused}
 use Rattle.slot_listing.specs.Listing.{listOut}
-use Rattle.refs_program.proofs.TextRoom.{entry-room}
-use Rattle.refs_program.specs.Line.{Entries, lineBy, lineOut, alike, lineAt, firstRefused, triedOut}
+use Rattle.listing_text.proofs.TextRoom.{entry-room}
+use Rattle.entry_lines.specs.Line.{Entries, lineBy, lineOut, alike, lineAt, firstRefused, triedOut}
 use Rattle.room.proofs.Branches.{same-then}
 use Rattle.room.proofs.Located.{list-more}
 

@@ -36,8 +36,8 @@ use Rattle.code_item_scan.specs.Scan.{Asked as ScanAsked, HitRoom, scanOut}
 use Rattle.insn_locator.specs.Locate.{Tables, locateOut}
 use Rattle.slot_listing.specs.Listing.{listOut}
 use Rattle.request.specs.Request.{requestOf}
-use Rattle.refs_program.specs.Text.{headOut, entryOut, refusalOut}
-use Rattle.refs_program.specs.Line.{Entries, lineAt, triedOut}
+use Rattle.listing_text.specs.Text.{headOut, entryOut, refusalOut}
+use Rattle.entry_lines.specs.Line.{Entries, lineAt, triedOut}
 use Rattle.completeness.specs.Completeness.{Supposed, FindWords, mostEntries, Enough, sharing}
 use Rattle.findrefs.specs.Find.{Lengths, lengthsOf, findOut}
 use Rattle.room.specs.Enough.{typeOffsets, typeIds, classOffsets, classIds, nameOffsets, nameIds, mapKeys}
