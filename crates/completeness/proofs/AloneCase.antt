@@ -17,7 +17,7 @@ use Rattle.start_words.specs.Starts.{withArray, noStarts, pairOf}
 use Rattle.code_table.specs.Slots.{joined, joinedSlot, place, tableOf}
 use Rattle.code_table.specs.RegionEnd.{regionEnd}
 use Rattle.code_table.specs.Build.{Room, buildOut}
-use Rattle.insn_locator.specs.Walk.{payloadUnits, step, walkIn, walk}
+use Rattle.insn_walk.specs.Walk.{payloadUnits, step, walkIn, walk}
 use Rattle.insn_locator.specs.Locate.{Tables, slotAt, firstOf, locateFrom, locateAll, locateOut}
 use Rattle.insn_locator.specs.Answers.{tables}
 use Rattle.insn_locator.specs.Alone.{Returned, aloneOut}

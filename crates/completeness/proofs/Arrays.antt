@@ -10,8 +10,8 @@ use Rattle.words.proofs.Shared.{some-inj}
 use Rattle.dalvik.specs.Numbers.{Bytes}
 use Rattle.dalvik.specs.Instructions.{Payload, Instruction, Reached}
 use Rattle.dalvik.specs.Instructions.Reached.{here, past-payload, past-instruction}
-use Rattle.insn_locator.proofs.Published.{step-payload, step-instruction}
-use Rattle.insn_locator.proofs.Walks.{Steps, onward, steps-le}
+use Rattle.insn_walk.proofs.Published.{step-payload, step-instruction}
+use Rattle.insn_walk.proofs.Walks.{Steps, onward, steps-le}
 
 -- what stands at t, in an array from a to e
 pub data Standing (s : List ℕ) (e a t : ℕ) : Type 0 where

@@ -21,7 +21,7 @@ use Rattle.code_table.specs.Build.{Room, buildOut}
 use Rattle.kinds.specs.Width.{widthOf}
 use Rattle.kinds.specs.Kinds.{kindOf}
 use Rattle.code_item_scan.specs.Scan.{Hit, asked, hitRoom, indexAt, isTried, hitsIn, hitsBy, scanOut}
-use Rattle.insn_locator.specs.Walk.{payloadUnits, step, walkIn, walk}
+use Rattle.insn_walk.specs.Walk.{payloadUnits, step, walkIn, walk}
 use Rattle.insn_locator.specs.Locate.{slotAt, firstOf, locateFrom, locateAll, locateOut}
 use Rattle.slot_listing.specs.Listing.{chain, listed, listOut}
 use Rattle.completeness.proofs.Owners.{tablesFor}

@@ -16,14 +16,14 @@ use Rattle.refusal.specs.Outcomes.{success}
 use Rattle.dalvik.specs.CodeItem.{Code, start, stop}
 use Rattle.dalvik.specs.Instructions.{Kind}
 use Rattle.code_item_scan.specs.Scan.{Hit}
-use Rattle.insn_locator.specs.Walk.{lands}
+use Rattle.insn_walk.specs.Walk.{lands}
 use Rattle.insn_locator.specs.Locate.{Tables}
 use Rattle.slot_listing.specs.Listing.{listed, listOut}
 use Rattle.completeness.specs.Completeness.{Supposed, sharing, arranged, Lists, NamesWanted}
 use Rattle.completeness.proofs.Outcomes.{entriesOf, Confirmed}
 use Rattle.completeness.proofs.Members.{place-of, length-arranged}
-use Rattle.insn_locator.proofs.Published.{payload-low}
-use Rattle.insn_locator.proofs.Walks.{Steps, lands-to, to-lands}
+use Rattle.insn_walk.proofs.Published.{payload-low}
+use Rattle.insn_walk.proofs.Walks.{Steps, lands-to, to-lands}
 use Rattle.completeness.proofs.Arrays.{Standing, payload, instruction, lands-within}
 use Rattle.completeness.proofs.Buckets.{InBuckets, owner-of}
 use Rattle.completeness.proofs.Walks.{passes, in-buckets}

@@ -19,13 +19,13 @@ use Rattle.code_table.proofs.Buckets.{base-le}
 use Rattle.kinds.specs.Width.{widthOf}
 use Rattle.code_item_scan.specs.Scan.{Hit, isIn, Sought, sought, indexBy, offs}
 use Rattle.code_item_scan.proofs.Listed.{even-tried, Tested, hits-above, hits-complete, hits-sound}
-use Rattle.insn_locator.specs.Walk.{lands}
+use Rattle.insn_walk.specs.Walk.{lands}
 use Rattle.insn_locator.specs.Locate.{Tables}
 use Rattle.completeness.specs.Completeness.{Supposed, NamesWanted}
 use Rattle.completeness.proofs.Outcomes.{entriesOf, Rising}
 use Rattle.completeness.proofs.Tests.{isIn-mem, mem-isIn}
 use Rattle.completeness.proofs.Members.{at-place}
-use Rattle.insn_locator.proofs.Walks.{steps-le}
+use Rattle.insn_walk.proofs.Walks.{steps-le}
 use Rattle.completeness.proofs.Buckets.{InBuckets}
 use Rattle.completeness.proofs.Widths.{zero-width, index-fits, Seen, named-width, width-names}
 use Rattle.completeness.proofs.Locates.{Located, located}

@@ -19,7 +19,7 @@ use Rattle.start_words.proofs.Starts.{pair-padded}
 use Rattle.class_data.specs.Stored.{startsOf}
 use Rattle.code_table.specs.Slots.{baseOf, tableOf}
 use Rattle.code_table.proofs.Buckets.{base-le}
-use Rattle.insn_locator.specs.Walk.{lands}
+use Rattle.insn_walk.specs.Walk.{lands}
 use Rattle.insn_locator.specs.Locate.{Tables, slotAt, firstOf}
 use Rattle.slot_listing.specs.Listing.{listed}
 use Rattle.completeness.specs.Completeness.{Supposed, sharing, arranged}

@@ -11,7 +11,7 @@ use Rattle.dalvik.specs.Instructions.{InstructionOf}
 use Rattle.code_table.specs.RegionEnd.{regionEnd}
 use Rattle.code_table.proofs.RegionEnd.{end-holds, AllInside}
 use Rattle.completeness.specs.Completeness.{Supposed}
-use Rattle.insn_locator.proofs.Walks.{Steps, steps-le, steps-even}
+use Rattle.insn_walk.proofs.Walks.{Steps, steps-le, steps-even}
 use Rattle.completeness.proofs.Arrays.{comes-to}
 use Rattle.completeness.proofs.Buckets.{InBuckets}
 use Rattle.completeness.proofs.Slots.{some-units}

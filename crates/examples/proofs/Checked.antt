@@ -15,7 +15,7 @@ use Rattle.opcodes.specs.Length.{lengthRead, unitsOf}
 use Rattle.kinds.specs.Width.{widthOf}
 use Rattle.kinds.specs.Kinds.{kindOf}
 use Rattle.code_item_scan.specs.Scan.{scanOut, hitsBy, hitsIn, isTried, indexAt}
-use Rattle.insn_locator.specs.Walk.{payloadUnits, step, walkIn, walk}
+use Rattle.insn_walk.specs.Walk.{payloadUnits, step, walkIn, walk}
 use Rattle.insn_locator.specs.Locate.{slotAt, firstOf, locateFrom, locateAll, locateOut}
 use Rattle.start_words.specs.Starts.{pairOf, withArray, noStarts}
 use Rattle.class_data.specs.Stored.{startsOf}

@@ -22,7 +22,7 @@ use Rattle.string_search.specs.declared.Owner.the-variants.{Entry, Absent}
 use Rattle.opcodes.specs.Length.{lengthRead}
 use Rattle.opcodes.specs.declared.Length.the-variants.{Units, Nothing}
 use Rattle.code_item_scan.specs.Scan.{Scan, asked, hitRoom, scanOut}
-use Rattle.insn_locator.specs.Walk.{step}
+use Rattle.insn_walk.specs.Walk.{step}
 use Rattle.insn_locator.specs.Locate.{locateOut}
 use Rattle.insn_locator.specs.Answers.{tables}
 use Rattle.class_data.specs.Stored.{startsOf}

@@ -19,11 +19,11 @@ use Rattle.words.specs.Padded.{zeros}
 use Rattle.words.proofs.Padded.{getD-zeros}
 use Rattle.words.proofs.Shared.{case, and-left, and-right, some-inj}
 use Rattle.start_words.specs.Starts.{pairCount, Pair, pairOf}
-use Rattle.insn_locator.specs.Walk.{lands}
+use Rattle.insn_walk.specs.Walk.{lands}
 use Rattle.insn_locator.specs.Locate.{Tables, Answered, slotAt, firstOf, fromOf, beforeEnd, confirmedBy, noted, tried, triedBy, answeredBy, answered, answeredAt, consTo, andThen, locateFrom, locateAll}
 use Rattle.insn_locator.specs.Steps.{climbs, walks, GoesOn, Ready, ReadyOn, Onward, answerOf}
 use Rattle.insn_locator.proofs.Climbing.{first-climbs, rest-climbs}
-use Rattle.insn_locator.proofs.Walks.{Steps, steps-le, lands-to, lands-again}
+use Rattle.insn_walk.proofs.Walks.{Steps, steps-le, lands-to, lands-again}
 
 -- ---- a method's walk goes on
 

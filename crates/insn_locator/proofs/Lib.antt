@@ -1,8 +1,3 @@
-pub mod Payloads
-pub mod Headers
-pub mod Steps
-pub mod Published
-pub mod Walks
 pub mod Climbing
 pub mod Alone
 pub mod Slots

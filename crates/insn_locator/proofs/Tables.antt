@@ -9,7 +9,7 @@ use native.Mathlib.Omega.{arith}
 use lib.ListN.{getD, set}
 use borrow.Author.Tests.{lt-ltb, le-ltb, eq-eqb, ne-eqb}
 use Rattle.start_words.specs.Starts.{Pair, pairOf}
-use Rattle.insn_locator.specs.Walk.{lands}
+use Rattle.insn_walk.specs.Walk.{lands}
 use Rattle.insn_locator.specs.Answers.{entryOf}
 use Rattle.insn_locator.specs.declared.Entry.{Entry}
 use Rattle.insn_locator.specs.declared.Entry.the-variants.{Word, Fault}

@@ -10,7 +10,7 @@ use Rattle.refusal.specs.Refusals.{tooLarge}
 use Rattle.refusal.specs.Outcomes.{Outcome, refused, success}
 use Rattle.start_words.specs.Starts.{pairCount, Pair, pairOf}
 use Rattle.code_table.specs.Slots.{shared, shareAt}
-use Rattle.insn_locator.specs.Walk.{lands}
+use Rattle.insn_walk.specs.Walk.{lands}
 
 -- what a build returned, or any other words
 pub record Tables : Type 0 where

@@ -1,6 +1,6 @@
 -- What the inner steps of locate promise each other.
 -- Assumes nothing.
-use Prim.Native.Nat.{ℕ, _<_, _≤_, _^_, max}
+use Prim.Native.Nat.{ℕ, _≤_}
 use mathlib.Core.Path.{_≡_}
 use mathlib.Core.Logic.{_≢_}
 use mathlib.Core.Bool.{Bool, true, false, _&&_}
@@ -9,45 +9,14 @@ use mathlib.Core.Option.{Option, none, some}
 use lib.ListN.{length, getD}
 use lib.Dec.{ltb, leb}
 use lib.Seq.{sets}
-use Rattle.dalvik.specs.Numbers.{byte}
 use Rattle.start_words.specs.Starts.{Pair, pairOf}
-use Rattle.insn_locator.specs.Walk as W
-use Rattle.insn_locator.specs.Walk.{lands}
+use Rattle.insn_walk.specs.Walk.{lands}
 use Rattle.insn_locator.specs.Locate.{Tables, Answered, fromOf}
 use Rattle.insn_locator.specs.Answers.{entryOf}
 use Rattle.insn_locator.specs.declared.Entry.{Entry}
 use Rattle.insn_locator.specs.declared.Entry.the-variants.{Word, Fault}
-use Rattle.insn_locator.specs.declared.walk.Advance.{Advance}
-use Rattle.insn_locator.specs.declared.walk.Advance.the-variants.{Next, Stuck}
-use Rattle.insn_locator.specs.declared.walk.Walked.{Walked}
 use Rattle.insn_locator.specs.declared.First.{First}
 use Rattle.insn_locator.specs.declared.First.the-variants.{Method, Missing}
-
--- the byte at p is 0
-pub record AtZero (s : List ℕ) (p : ℕ) : Type 0 where
-  pub inside : p < length s
-  pub zero : byte s p ≡ 0
-
--- a payload of n units opens at p, and no sum that is made of n wraps
-pub record PayloadAt (s : List ℕ) (p n : ℕ) : Type 0 where
-  pub inside : p < length s
-  pub units : W.payloadUnits s p ≡ n
-  pub some-units : 0 < n
-  pub small : n < 2 ^ 48
-
-abbrev pub nextOf : Advance → Option ℕ
-nextOf (Next q) = some q
-nextOf Stuck = none
-
-abbrev pub walkedOf : Walked → W.Walked
-walkedOf w = record { lands = w .lands; steps = w .steps }
-
--- a walk made, and where it stands: the last place of it that is not past its target. To every later target it goes on from there
-pub record Walks (s : List ℕ) (start end : ℕ) (r : Walked) : Type 0 where
-  pub is : walkedOf r ≡ W.walk s start end
-  pub forward : start ≤ r .at
-  pub most : r .at ≤ max start end
-  pub same : (u : ℕ) → end ≤ u → lands s (r .at) u ≡ lands s start u
 
 abbrev pub firstValue : First → Option ℕ
 firstValue (Method m) = some m

@@ -1,8 +1,6 @@
 // Confirms entries (`insn_verify` and `locate` of insn_locator.rs): an entry is confirmed where it lies before its method's end and a walk over
 // instructions and payloads, from that method's start or its last confirmed entry, lands on it exactly.
 // A list that does not fall is taken onward: each method's walk then goes on from where it stands, so that no stretch is walked twice.
-mod walk; // walk.rt: the walk over instructions and payloads, and its step
-
 ghost use mathlib.Core.Path.{_≡_};
 ghost use Prim.Native.Nat.{_<_};
 ghost use mathlib.Core.Bool.{true};
@@ -82,7 +80,7 @@ fn confirm(
     if from == 0 {
         return 0;
     }
-    let walked = walk::walk(buf, from, off);
+    let walked = insn_walk::walk(buf, from, off);
     if walked.lands {
         words::put(last, m, off);
         return slot;

@@ -7,7 +7,7 @@ use native.Mathlib.Omega.{arith}
 use Prim.Native.Nat.{ℕ}
 use mathlib.Core.List.{List}
 use Rattle.start_words.specs.Starts.{pair}
-use Rattle.insn_locator.specs.Walk.{Walked}
+use Rattle.insn_walk.specs.Walk.{Walked}
 use Rattle.insn_locator.specs.Locate.{Answered, fromOf}
 use mathlib.Core.Path.{ap, sym, _∙_}
 use borrow.Author.Needs.{needs}

@@ -6,13 +6,13 @@ use mathlib.Core.Path.{_≡_, refl, sym, ap, _∙_}
 use mathlib.Core.List.{List}
 use lib.ListN.{length}
 use native.Mathlib.Omega.{arith}
-use Rattle.insn_locator.specs.Walk.{afterSteps, walk, lands}
-use Rattle.insn_locator.specs.Steps.{nextOf}
-use Rattle.insn_locator.proofs.Steps.{step-outside, step-keeps}
-use Rattle.insn_locator.proofs.Walks.{after-none, lands-step, walk-on, walk-lands, walk-passes, walk-fails}
+use Rattle.insn_walk.specs.Walk.{afterSteps, walk, lands}
+use Rattle.insn_walk.specs.Steps.{nextOf}
+use Rattle.insn_walk.proofs.Steps.{step-outside, step-keeps}
+use Rattle.insn_walk.proofs.Walks.{after-none, lands-step, walk-on, walk-lands, walk-passes, walk-fails}
 use borrow.Author.Needs.{needs}
-use Rattle.insn_locator.proofs.walk.walk.Statement.{statement}
-use Rattle.insn_locator.proofs.walk.walk.Tie as tie
+use Rattle.insn_walk.proofs.walk.Statement.{statement}
+use Rattle.insn_walk.proofs.walk.Tie as tie
 
 -- the place before is `at`, and the place now `pos`
 record Going (s : List ℕ) (start end at pos steps : ℕ) : Type 0 where

@@ -9,7 +9,7 @@ use lib.ListN.{length}
 use borrow.Author.Tests.{eq-eqb, ne-eqb}
 use Rattle.dalvik.specs.Numbers.{byte}
 use Rattle.structs.proofs.Laws.{byte-past}
-use Rattle.insn_locator.specs.Walk.{unitsBy, payloadUnits}
+use Rattle.insn_walk.specs.Walk.{unitsBy, payloadUnits}
 
 module _ (s : List ℕ) (p : ℕ) where
   pub units-low : byte s p ≡ 0 → payloadUnits s p ≡ unitsBy s p (byte s (p + 1))

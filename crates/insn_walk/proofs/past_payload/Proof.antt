@@ -2,10 +2,10 @@
 -- Assumes nothing.
 use mathlib.Core.Path.{sym}
 use native.Mathlib.Omega.{arith}
-use Rattle.insn_locator.proofs.Steps.{payload-cut, payload-step}
+use Rattle.insn_walk.proofs.Steps.{payload-cut, payload-step}
 use borrow.Author.Needs.{needs}
-use Rattle.insn_locator.proofs.walk.past_payload.Statement.{statement}
-use Rattle.insn_locator.proofs.walk.past_payload.Tie as tie
+use Rattle.insn_walk.proofs.past_payload.Statement.{statement}
+use Rattle.insn_walk.proofs.past_payload.Tie as tie
 
 mul-next : tie.Need-mul-next
 mul-next c = search needs

@@ -13,8 +13,8 @@ use borrow.Author.Tests.{lt-ltb, le-ltb, ltb-true, ltb-false, le-leb, lt-leb, le
 use Rattle.words.proofs.Shared.{and-left, and-right}
 use Rattle.dalvik.specs.Numbers.{byte}
 use Rattle.opcodes.specs.Length.{unitsOf}
-use Rattle.insn_locator.specs.Walk.{payloadUnits, past, step}
-use Rattle.insn_locator.proofs.Payloads.{none-outside}
+use Rattle.insn_walk.specs.Walk.{payloadUnits, past, step}
+use Rattle.insn_walk.proofs.Payloads.{none-outside}
 
 module _ (s : List ℕ) (p : ℕ) where
   -- a payload of n units opens at p

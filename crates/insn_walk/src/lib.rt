@@ -2,8 +2,9 @@
 ghost use mathlib.Core.Path.{_≡_};
 ghost use Prim.Native.Nat.{_<_, min};
 ghost use lib.ListN.{length};
-ghost use Rattle.insn_locator.specs.Walk.{step};
-ghost use Rattle.insn_locator.specs.Steps.{AtZero, PayloadAt, nextOf, Walks};
+ghost use Rattle.insn_walk.specs.Walk.{step};
+ghost use Rattle.insn_walk.specs.Answer.{Walks};
+ghost use Rattle.insn_walk.specs.Steps.{AtZero, PayloadAt, nextOf};
 
 // Where a walk goes on.
 enum Advance {
@@ -12,7 +13,7 @@ enum Advance {
 }
 
 // Whether a walk lands on its target, how many steps it took, and where it stands: the last place of it that is not past the target.
-pub(crate) struct Walked {
+pub struct Walked {
     pub lands: bool,
     pub steps: usize,
     pub at: usize,
@@ -78,7 +79,7 @@ fn nearer(to: usize, len: usize) -> usize
 }
 
 // The walk from start to end. One bound, target or file's end, is all that a turn tests besides the opcode.
-pub(crate) fn walk(buf: &[u8], start: u32, end: u32) -> Walked
+pub fn walk(buf: &[u8], start: u32, end: u32) -> Walked
     ensures { λ r. ⌜ Walks (now (buf .entry)) start end r ⌝ }
 {
     let to = end as usize;

@@ -9,9 +9,9 @@ use native.Mathlib.Omega.{arith}
 use borrow.Author.Tests.{ne-eqb}
 use Rattle.dalvik.specs.Numbers.{byte, le32}
 use Rattle.structs.specs.Reads.{HalfAt}
-use Rattle.insn_locator.specs.Walk.{unitsBy, payloadUnits}
-use Rattle.insn_locator.specs.Steps.{AtZero, PayloadAt}
-use Rattle.insn_locator.proofs.Payloads.{units-low}
+use Rattle.insn_walk.specs.Walk.{unitsBy, payloadUnits}
+use Rattle.insn_walk.specs.Steps.{AtZero, PayloadAt}
+use Rattle.insn_walk.proofs.Payloads.{units-low}
 
 pub product-small : (z w : ℕ) → z < 2 ^ 32 → w < 65536 → z * w < 2 ^ 48
 product-small z w h k =

@@ -15,9 +15,9 @@ use Rattle.dalvik.specs.Instructions.{Payload, Instruction}
 use Rattle.dalvik.specs.Instructions.Payload.{packed-switch, sparse-switch, fill-array-data}
 use Rattle.dalvik.proofs.Payloads.{not-both}
 use Rattle.opcodes.proofs.Published.{units-published}
-use Rattle.insn_locator.specs.Walk.{unitsBy, payloadUnits, step}
-use Rattle.insn_locator.proofs.Payloads.{units-low, none-low}
-use Rattle.insn_locator.proofs.Steps.{payload-step, opcode-step}
+use Rattle.insn_walk.specs.Walk.{unitsBy, payloadUnits, step}
+use Rattle.insn_walk.proofs.Payloads.{units-low, none-low}
+use Rattle.insn_walk.proofs.Steps.{payload-step, opcode-step}
 
 module _ (s : List ℕ) (B : Bytes s) (p : ℕ) where
   -- the two bytes of a unit

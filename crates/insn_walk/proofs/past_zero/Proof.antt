@@ -4,11 +4,11 @@ use mathlib.Core.Path.{sym}
 use native.Mathlib.Omega.{arith}
 use Rattle.words.proofs.Shared.{met}
 use Rattle.structs.proofs.Laws.{read32-value, read32-outside}
-use Rattle.insn_locator.proofs.Headers.{product-small, packed, sparse, array-data, some-data, no-payload}
-use Rattle.insn_locator.proofs.Steps.{data-cut, nop-step}
+use Rattle.insn_walk.proofs.Headers.{product-small, packed, sparse, array-data, some-data, no-payload}
+use Rattle.insn_walk.proofs.Steps.{data-cut, nop-step}
 use borrow.Author.Needs.{needs}
-use Rattle.insn_locator.proofs.walk.past_zero.Statement.{statement}
-use Rattle.insn_locator.proofs.walk.past_zero.Tie as tie
+use Rattle.insn_walk.proofs.past_zero.Statement.{statement}
+use Rattle.insn_walk.proofs.past_zero.Tie as tie
 
 add-byte-at : tie.Need-add-byte-at
 add-byte-at c = search needs

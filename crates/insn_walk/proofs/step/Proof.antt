@@ -4,11 +4,11 @@ use mathlib.Core.Path.{sym}
 use native.Mathlib.Omega.{arith}
 use Rattle.words.proofs.Shared.{met}
 use Rattle.opcodes.proofs.Laws.{length-units, length-nothing}
-use Rattle.insn_locator.proofs.Payloads.{none-low}
-use Rattle.insn_locator.proofs.Steps.{opcode-unknown, opcode-step}
+use Rattle.insn_walk.proofs.Payloads.{none-low}
+use Rattle.insn_walk.proofs.Steps.{opcode-unknown, opcode-step}
 use borrow.Author.Needs.{needs}
-use Rattle.insn_locator.proofs.walk.step.Statement.{statement}
-use Rattle.insn_locator.proofs.walk.step.Tie as tie
+use Rattle.insn_walk.proofs.step.Statement.{statement}
+use Rattle.insn_walk.proofs.step.Tie as tie
 
 shared-slice-read-op : tie.Need-shared-slice-read-op
 shared-slice-read-op c = search needs

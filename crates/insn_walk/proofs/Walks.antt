@@ -12,8 +12,8 @@ use native.Mathlib.Omega.{arith}
 use lib.Dec.{eqb, ltb}
 use borrow.Author.Tests.{lt-ltb, le-ltb, ltb-true, ltb-false, eq-eqb, ne-eqb, eqb-true}
 use Rattle.words.proofs.Shared.{same-test}
-use Rattle.insn_locator.specs.Walk.{step, Walked, arrived, failed, afterSteps, onStep, walkIn, walk, lands}
-use Rattle.insn_locator.proofs.Steps.{Stepped, step-keeps}
+use Rattle.insn_walk.specs.Walk.{step, Walked, arrived, failed, afterSteps, onStep, walkIn, walk, lands}
+use Rattle.insn_walk.proofs.Steps.{Stepped, step-keeps}
 
 -- ---- the steps that are enough
 

@@ -1,0 +1,5 @@
+pub mod Payloads
+pub mod Headers
+pub mod Steps
+pub mod Published
+pub mod Walks
