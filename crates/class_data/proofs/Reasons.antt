@@ -1,14 +1,13 @@
 -- Why the walk over a file's class data refuses: each way out of its definition is a number's, a class definition's, a method index's or a code
 -- item's.
---     WalkReason                               these refusals
---     codes-reason                             the walk has no others
---     never-short, never-region, never-table   so neither 4 nor 12 nor 15
+--     WalkReason     these refusals
+--     codes-reason   the walk has no others
+--     never          so it is refused by no other number, as 4, 12 or 15
 -- Assumes nothing.
 use Prim.Native.Nat.{ℕ, zero, suc, _+_}
-use native.Mathlib.Omega.{arith}
-use mathlib.Core.Path.{_≡_, refl}
+use mathlib.Core.Path.{_≡_, refl, ap, _∙_}
 use mathlib.Core.Logic.{_≢_}
-use mathlib.Core.Bool.{_&&_}
+use mathlib.Core.Bool.{Bool, false, _&&_, _||_, true≢false}
 use mathlib.Core.List.{List, [], _∷_}
 use mathlib.Core.Option.{Option, none, some}
 use lib.ListN.{length}
@@ -37,26 +36,17 @@ pub data WalkReason : Refusal → Type 0 where
   method-index : WalkReason MethodIndex
   code-item : WalkReason CodeOutside
 
-pub never-short : {r : Refusal} → WalkReason r → refusalNumber r ≢ 4
-never-short (number outside) q = omega arith
-never-short (number too-long) q = omega arith
-never-short class-definition q = omega arith
-never-short method-index q = omega arith
-never-short code-item q = omega arith
+-- the number of one of these refusals
+abbrev pub isReason : ℕ → Bool
+isReason n = eqb n 6 || eqb n 16 || eqb n 3 || eqb n 7 || eqb n 8
 
-pub never-region : {r : Refusal} → WalkReason r → refusalNumber r ≢ 12
-never-region (number outside) q = omega arith
-never-region (number too-long) q = omega arith
-never-region class-definition q = omega arith
-never-region method-index q = omega arith
-never-region code-item q = omega arith
-
-pub never-table : {r : Refusal} → WalkReason r → refusalNumber r ≢ 15
-never-table (number outside) q = omega arith
-never-table (number too-long) q = omega arith
-never-table class-definition q = omega arith
-never-table method-index q = omega arith
-never-table code-item q = omega arith
+-- no other number is one: `never 4 refl`
+pub never : (n : ℕ) → isReason n ≡ false → {r : Refusal} → WalkReason r → refusalNumber r ≢ n
+never n other (number outside) q = true≢false (ap isReason q ∙ other)
+never n other (number too-long) q = true≢false (ap isReason q ∙ other)
+never n other class-definition q = true≢false (ap isReason q ∙ other)
+never n other method-index q = true≢false (ap isReason q ∙ other)
+never n other code-item q = true≢false (ap isReason q ∙ other)
 
 -- ---- each way out of the walk
 abbrev pub Reasoned : Walk → Type 0

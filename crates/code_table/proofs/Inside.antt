@@ -22,7 +22,7 @@ use Rattle.class_data.specs.Walk.{Walk}
 use Rattle.class_data.specs.Walk.Walk.{refused, found}
 use Rattle.class_data.specs.Codes.{codesOf}
 use Rattle.class_data.proofs.Found.{CodeIn, Each, codes-sound}
-use Rattle.class_data.proofs.Reasons.{Reasoned, codes-reason, never-region, never-table}
+use Rattle.class_data.proofs.Reasons.{Reasoned, codes-reason, never}
 use Rattle.code_table.specs.Slots.{baseOf, topOf, tableOf}
 use Rattle.code_table.specs.RegionEnd.{RegionInside}
 use Rattle.code_table.specs.Build.{Room, Build, mostShares, noBuild, wholeBuild, builtFrom, buildOut}
@@ -50,7 +50,7 @@ refuses len n d e = record { region = record { rises = omega arith; inside = ome
 
 from-inside : (s : List ℕ) (h : DexHeader) (m : ℕ) (room : Room) (w : Walk) → w ≡ codesOf s h → Reasoned w
     → Inside (length s) (builtFrom (length s) m room w)
-from-inside s h m room (refused r) e n = refuses (length s) (refusalNumber r) (never-region n) (never-table n)
+from-inside s h m room (refused r) e n = refuses (length s) (refusalNumber r) (never 12 refl n) (never 15 refl n)
 from-inside s h m room (found cs x) e n =
     cond-elim (Inside (length s))
     (leb (3 * length cs) (room .triples) && leb (topOf cs - baseOf cs) (room .slots) && leb (length (tableOf cs .shares)) (room .shares)

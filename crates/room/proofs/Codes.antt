@@ -16,7 +16,7 @@ use Rattle.tinydex.specs.declared.DexHeader.{DexHeader}
 use Rattle.class_data.specs.Walk.{Walk}
 use Rattle.class_data.specs.Walk.Walk.{refused, found}
 use Rattle.class_data.specs.Codes.{codesOf}
-use Rattle.class_data.proofs.Reasons.{Reasoned, codes-reason, never-short}
+use Rattle.class_data.proofs.Reasons.{Reasoned, codes-reason, never}
 use Rattle.code_table.specs.Slots.{baseOf, topOf, tableOf}
 use Rattle.code_table.specs.Build.{Room, Build, noBuild, wholeBuild, mostShares, builtFrom, buildOut}
 use Rattle.code_table.proofs.RegionEnd.{slots-few}
@@ -58,7 +58,7 @@ build-more s h room room′ L =
 module _ (s : List ℕ) (h : DexHeader) (room : Room) (a : 2 * h .methods .size ≤ room .starts) (b : length s / 16 ≤ room .slots) where
   from-enough : (w : Walk) → w ≡ codesOf s h → Reasoned w → 3 * codesFound w ≤ room .triples → 3 * codesFound w ≤ room .shares → codesFound w ≤ 2 ^ 31
       → builtFrom (length s) (h .methods .size) room w .number ≢ 4
-  from-enough (refused r) q n c d e = never-short n
+  from-enough (refused r) q n c d e = never 4 refl n
   from-enough (found cs x) q n c d e =
       let k : length (tableOf cs .shares) ≤ 3 * length cs = shares-few cs in
       rw (
