@@ -1,4 +1,6 @@
 // ASCII case: the small and the capital letter of a byte, and a byte as it is compared where case is ignored or not.
+#![tactic(auto)]
+
 ghost use Rattle.std.specs.Prelude.{◌≡◌};
 ghost use Rattle.ascii_case.specs.Case.{lower_case, Capital, folded};
 

@@ -1,4 +1,6 @@
 // What the C interface takes and hands out: the header record as 13 words, the numbers of each kind of answer, and where a group stands.
+#![tactic(auto)]
+
 ghost use Rattle.std.specs.Prelude.{◌≡◌, [], ◌∷◌};
 ghost use Rattle.c_answers.specs.Header.{header_of};
 ghost use Rattle.c_answers.specs.Told.{of_answer, of_method_groups, of_string_map, of_string_text, of_code_table, of_found};

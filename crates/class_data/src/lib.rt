@@ -1,5 +1,7 @@
 // The codes of a file (insn_locator.rs: `_build_map_bymap`, `_build_map_bydef`): the class data items are found by the map, else by the
 // class definitions, and walked.
+#![tactic(auto)]
+
 mod item; // item.rt: one class data item as it is read
 mod parse; // parse.rt: one class data item walked
 

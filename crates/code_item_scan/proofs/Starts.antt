@@ -17,8 +17,8 @@ use native.Mathlib.Omega.{arith}
 use lib.Dec.{eqb, ltb, leb}
 use lib.ListN.{length, get_or}
 use borrow.Author.Tests.{eq-eqb, ne_eqb, lt-ltb, lt-leb, le-leb}
-use Rattle.memchr.specs.First.{Is, Either, First}
-use Rattle.memchr.proofs.Firsts.{onward}
+use Rattle.byte_search.specs.First.{Is, Either, First}
+use Rattle.byte_search.proofs.Firsts.{onward}
 use Rattle.dalvik.specs.Numbers.{byte, le16, le32}
 use Rattle.dalvik.specs.Instructions.{Kind}
 use Rattle.dalvik.specs.Instructions.Kind.{strings}

@@ -46,7 +46,7 @@ fn skip(s: &[u8], end: usize, start: usize) -> usize
     requires { (start ≤ end) × (end ≤ length s.now) }
     ensures { Skipped s.now end start result }
 {
-    memchr::memchr2(0x1a, 0x1b, s, start, end)
+    byte_search::memchr2(0x1a, 0x1b, s, start, end)
 }
 
 // The next string hit.

@@ -1,5 +1,7 @@
 // The scan of a code region for instructions that name one of the wanted indices (code_item_scan.rs): hits are found one at a time, in a
 // set of indices that each call prepares.
+#![tactic(auto)]
+
 mod hits; // hits.rt: the next hit, by fast paths
 mod reads; // reads.rt: reads inside a region
 mod refusals; // refusals.rt: what is refused, and what a refusal leaves

@@ -1,4 +1,6 @@
 // The code table's build (`parse` of insn_locator.rs): from file and record to start words, triples, slots, shares and the code region.
+#![tactic(auto)]
+
 ghost use Rattle.std.specs.Prelude.{◌≡◌, List, [], ◌∷◌, ◌+◌, ◌*◌, ◌<◌, ◌≤◌, length};
 ghost use Rattle.std.proofs.lemmas.List.Edits.{sets};
 ghost use Rattle.dalvik.specs.CodeItem.{Code};

@@ -1,5 +1,7 @@
 // The lines of the entries that `refs` lists: SPEC, The program refs. That every line can be made is known before any is printed. Lists of
 // unequal length are a fault: an entry without an answer is not one that is unconfirmed.
+#![tactic(auto)]
+
 ghost use Rattle.std.specs.Prelude.{◌≡◌, length};
 ghost use Rattle.refusal.specs.Outcomes.{Gives};
 ghost use Rattle.entry_lines.specs.Line.{line_out, alike, line_at, tried_out};

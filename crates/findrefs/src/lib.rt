@@ -1,5 +1,7 @@
 // The finder, whole (the source's manager): the code table's build, the scan of its region and locate of the scan's list, over lent
 // buffers. What a user is promised, demand 3, is a clause of its contract (crate completeness).
+#![tactic(auto)]
+
 ghost use Rattle.std.specs.Prelude.{◌/◌, length};
 ghost use Rattle.start_words.specs.Starts.{first_starts};
 ghost use Rattle.code_table.specs.Answer.{table_words};

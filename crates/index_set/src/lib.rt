@@ -1,5 +1,7 @@
 // Sets of indices as bits of lent words: index x has bit x % 64 of word x / 64. One look tells whether an index is held, and the
 // indices held are read off in order, past 64 at a time where a word has none.
+#![tactic(auto)]
+
 pub mod marked; // marked.rt: a set that is collected from words in any order
 
 ghost use Rattle.std.specs.Prelude.{◌≡◌, ◌+◌, ◌*◌, ◌<◌, length};

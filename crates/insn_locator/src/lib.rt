@@ -1,6 +1,8 @@
 // Confirms entries (`insn_verify` and `locate` of insn_locator.rs): an entry is confirmed where it lies before its method's end and a walk over
 // instructions and payloads, from that method's start or its last confirmed entry, lands on it exactly.
 // A list that does not fall is taken onward: each method's walk then goes on from where it stands, so that no stretch is walked twice.
+#![tactic(auto)]
+
 ghost use Rattle.std.specs.Prelude.{◌≡◌, ◌<◌, true, length};
 ghost use Rattle.start_words.specs.Starts.{pair};
 ghost use Rattle.insn_locator.specs.Answers.{tables, entry_of, locate_words, Located};

@@ -1,4 +1,6 @@
 // The walk over instructions and payloads (`insn_verify` of insn_locator.rs, which knows no payloads), and its step.
+#![tactic(auto)]
+
 ghost use Rattle.std.specs.Prelude.{◌≡◌, ◌<◌, min, length};
 ghost use Rattle.insn_walk.specs.Walk.{step};
 ghost use Rattle.insn_walk.specs.Answer.{Walks};

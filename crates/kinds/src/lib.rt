@@ -1,4 +1,6 @@
 // What an opcode names for each of the four kinds (SPEC, Scan): the width of the index that stands after it (code_item_scan.rs).
+#![tactic(auto)]
+
 ghost use Rattle.std.specs.Prelude.{◌≡◌};
 ghost use Rattle.dalvik.specs.Instructions.Kind.{strings, types, fields, methods};
 ghost use Rattle.kinds.specs.Kinds.{kind_of, is_strings, meant, kind_read};

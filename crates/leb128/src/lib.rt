@@ -1,4 +1,6 @@
 // Unsigned LEB128 numbers (leb128.rs), at most five bytes that together fit 32 bits: a number's value and length, and its length alone.
+#![tactic(auto)]
+
 ghost use Rattle.std.specs.Prelude.{◌≡◌, ◌<◌, length};
 ghost use Rattle.structs.specs.Reads.{ByteAt};
 ghost use Rattle.leb128.specs.Leb.{uleb_fast, uleb_len, Published, PublishedLen};

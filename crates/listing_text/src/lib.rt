@@ -1,5 +1,7 @@
 // What the program `refs` prints, as text in a lent slice of bytes: SPEC, The program refs. The head's two lines, the line of one entry and
 // the line of a refusal. Text that doesn't fit is refused with 4, and then every lent byte is zero.
+#![tactic(auto)]
+
 ghost use Rattle.std.specs.Prelude.{length};
 ghost use Rattle.refusal.specs.Outcomes.{Gives};
 ghost use Rattle.text_out.specs.Write.{Writes};

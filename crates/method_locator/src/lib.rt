@@ -1,4 +1,6 @@
 // The method ids by their class and by their name (method_locator.rs). Thin over `groups`.
+#![tactic(auto)]
+
 ghost use Rattle.std.specs.Prelude.{◌≡◌};
 ghost use Rattle.groups.specs.Stretch.{stretch_of};
 ghost use Rattle.groups.specs.Built.{group_words};

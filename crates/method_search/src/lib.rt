@@ -1,5 +1,7 @@
 // Method search (`MethodLocator::locate` of method_locator.rs, substring queries): the methods whose class is among the types found
 // and whose name is among the strings found. An empty class or name is absent and asks for nothing.
+#![tactic(auto)]
+
 ghost use Rattle.std.specs.Prelude.{◌≡◌, max, length, take};
 ghost use Rattle.words.specs.Padded.{zeros};
 ghost use Rattle.words.specs.Rising.{Rising};

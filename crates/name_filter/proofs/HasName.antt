@@ -12,11 +12,11 @@ use lib.Seq.{drop-cons}
 use lib.Bits.{bit_or, or_add_and, and_le_l, and_le_r, or_lt}
 use borrow.Author.Tests.{lt-ltb, le-ltb, le-leb, lt-leb}
 use borrow.Author.Count.{below_more}
-use Rattle.memchr.specs.First.{Either, First}
-use Rattle.memchr.proofs.Firsts.{onward}
+use Rattle.byte_search.specs.First.{Either, First}
+use Rattle.byte_search.proofs.Firsts.{onward}
 use Rattle.word_set.proofs.Sets.{below_or_not}
-use Rattle.memchr.specs.Occurs.{Stands}
-use Rattle.memchr.proofs.Occurs.{stands_bytes, byte_stands}
+use Rattle.byte_search.specs.Occurs.{Stands}
+use Rattle.byte_search.proofs.Occurs.{stands_bytes, byte_stands}
 use Rattle.name_filter.specs.Steps.{Capital}
 use Rattle.name_filter.specs.HasName.{lower_case, is_ascii, HasName}
 

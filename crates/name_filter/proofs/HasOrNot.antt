@@ -7,8 +7,8 @@ use mathlib.Core.Logic.{◌⊎◌, inl, inr, ⊎_elim}
 use mathlib.Core.List.{List, map}
 use lib.ListN.{length}
 use Rattle.word_set.proofs.Sets.{below_or_not}
-use Rattle.memchr.specs.Occurs.{Occurs}
-use Rattle.memchr.proofs.Occurs.{occurs_or_not}
+use Rattle.byte_search.specs.Occurs.{Occurs}
+use Rattle.byte_search.proofs.Occurs.{occurs_or_not}
 use Rattle.name_filter.specs.HasName.{lower_case, HasName}
 
 -- a text has the name from a place on, or not

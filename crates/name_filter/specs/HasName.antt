@@ -1,7 +1,7 @@
 -- What it is for a text to contain a query, ASCII case ignored: SPEC, Name filter (`matches_name` of string_locator.rs).
 -- Assumes nothing.
 use Rattle.std.specs.Prelude.{ℕ, ◌+◌, Bool, true, cond, ◌&&◌, List, [], ◌∷◌, map, length, ltb, leb}
-use Rattle.memchr.specs.Occurs.{Occurs}
+use Rattle.byte_search.specs.Occurs.{Occurs}
 
 -- ASCII case ignored: a letter A to Z counts as its small letter
 unfoldable pub lower_case : ℕ → ℕ

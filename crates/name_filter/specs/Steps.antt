@@ -14,7 +14,7 @@ use Rattle.word_set.specs.Found.{fault_number}
 use Rattle.word_set.specs.Steps.{Decides, Whole}
 use Rattle.word_set.specs.declared.Fault.{Fault}
 use Rattle.index_set.specs.Bits.{is_held}
-use Rattle.memchr.specs.First.{Is}
+use Rattle.byte_search.specs.First.{Is}
 use Rattle.name_filter.specs.declared.refusals.Verdict.{Verdict}
 use Rattle.name_filter.specs.declared.refusals.Verdict.TheVariants.{Known, Refused}
 use Rattle.name_filter.specs.HasName.{lower_case, HasName}

@@ -1,6 +1,8 @@
 // The name filter (`locate_name_indices` of string_locator.rs): of the given string indices those whose text contains the query,
 // ASCII case ignored. The header's own count and table of strings are used. Each string is looked at once: two sets remember which
 // were seen and which of them have the name, with as many bits as the file's count of strings asks for.
+#![tactic(auto)]
+
 mod matches_name; // matches_name.rt: one text and a query
 mod refusals; // refusals.rt: what is refused, of a call and of one text
 

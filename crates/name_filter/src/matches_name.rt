@@ -1,7 +1,7 @@
 // A text and a query, ASCII case ignored (`matches_name` of string_locator.rs): whether the text contains the query. And whether
 // bytes are ASCII.
 ghost use Rattle.std.specs.Prelude.{◌≡◌, map, ◌+◌, ◌≤◌, length};
-ghost use Rattle.memchr.specs.Occurs.{Stands};
+ghost use Rattle.byte_search.specs.Occurs.{Stands};
 ghost use Rattle.word_set.specs.Steps.{Decides};
 ghost use Rattle.name_filter.specs.Steps.{Capital};
 ghost use Rattle.name_filter.specs.HasName.{lower_case, is_ascii, HasName};
@@ -59,12 +59,12 @@ pub(crate) fn matches_name(text: &[u8], query: &[u8]) -> bool
     let end = text.len() - n + 1;
     let a = lower(query[0]);
     let b = upper(a);
-    let mut at = memchr::memchr2(a, b, text, 0, end);
+    let mut at = byte_search::memchr2(a, b, text, 0, end);
     while at < end {
         if stands_at(text, at, query) {
             return true;
         }
-        at = memchr::memchr2(a, b, text, at + 1, end);
+        at = byte_search::memchr2(a, b, text, at + 1, end);
     }
     false
 }

@@ -1,4 +1,6 @@
 // The length of an instruction by its opcode byte: `opcodes` of the source's models/dvm_opcode, as SPEC, Instruction lengths, gives its meaning.
+#![tactic(auto)]
+
 mod entry; // entry.rt: how the table is read
 
 ghost use Rattle.std.specs.Prelude.{◌≡◌};

@@ -1,5 +1,7 @@
 // The program `refs`: SPEC, The program refs. It reads `input.dex` and the request, finds, lists every entry's slot, and only then prints:
 // a refusal of any step prints its line and nothing else. Where `input.dex` cannot be opened, that is said on standard error.
+#![tactic(auto)]
+
 use findrefs::Found;
 use libc::{STDIN_FILENO, STDOUT_FILENO};
 use refusal::{Answer, Refusal};

@@ -1,4 +1,6 @@
 // The refusals (SPEC, Conventions), the answer that most operations give, and the largest file that is read.
+#![tactic(auto)]
+
 ghost use Rattle.std.specs.Prelude.{◌≡◌};
 ghost use Rattle.refusal.specs.Refusals.{refusal_number, is_too_large};
 

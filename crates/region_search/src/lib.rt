@@ -1,4 +1,6 @@
 // The finder's second half: the scan of a build's region and locate of its list, over lent buffers.
+#![tactic(auto)]
+
 ghost use Rattle.std.specs.Prelude.{◌≤◌, ◌/◌, length, take};
 ghost use Rattle.start_words.specs.Starts.{first_starts};
 ghost use Rattle.code_item_scan.specs.Scan.{asked};

@@ -1,6 +1,8 @@
 // Replays a list of calls, `cases`, through the functions that C calls and those that hand back a part of a slice, and writes a line for
 // each: the operation, the refusal's number, the numbers handed out, and of each lent output the words up to the last that is not 0.
 // README.md has the form of the list.
+#![tactic(auto)]
+
 mod case_list;
 
 ghost use Rattle.std.specs.Prelude.{◌≡◌, length};

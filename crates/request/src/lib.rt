@@ -1,4 +1,6 @@
 // The request of the program `refs`, whole: SPEC, The program refs. The header record's seven lines, the kind and the wanted indices.
+#![tactic(auto)]
+
 mod lines;
 
 ghost use Rattle.std.specs.Prelude.{◌≡◌, length};

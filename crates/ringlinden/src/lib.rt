@@ -1,5 +1,6 @@
 // The C interface (include/ringlinden.h): each operation under a plain name, over lent slices. A function returns the refusal's
 // number, 0 for success; counts and places go through pointers, and are 0 on a refusal.
+#![tactic(auto)]
 
 ghost use Rattle.std.specs.Prelude.{◌≡◌, [], ◌∷◌, ◌++◌, length};
 ghost use Rattle.dalvik.specs.Numbers.{le32};

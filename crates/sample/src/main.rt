@@ -1,4 +1,5 @@
 // Runs the library's operations on `sample.dex`, and writes what they find, a section for each.
+#![tactic(auto)]
 
 mod code_section;
 mod group_sections;

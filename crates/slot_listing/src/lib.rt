@@ -1,4 +1,6 @@
 // Lists the methods that a slot word stands for (the `Vec<Vec<u32>>` of insn_locator.rs, kept as three words a share).
+#![tactic(auto)]
+
 ghost use Rattle.std.specs.Prelude.{◌≡◌, ◌≤◌, ◌++◌, length, drop};
 ghost use Rattle.refusal.specs.Outcomes.{Gives};
 ghost use Rattle.slot_listing.specs.Listing.{list_out};

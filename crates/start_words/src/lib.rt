@@ -1,5 +1,7 @@
 // The start words of methods in a lent slice, a pair for each method: where its array starts and where it ends, 0 and 0 without code. Who
 // stores or reads them does so through this crate, so that it alone says how they lie.
+#![tactic(auto)]
+
 ghost use Rattle.std.specs.Prelude.{◌≡◌};
 ghost use Rattle.start_words.specs.Starts.{pair_count, pair_of, first_starts, with_array};
 ghost use Rattle.start_words.specs.Read.{pair_read};

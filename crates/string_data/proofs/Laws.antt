@@ -13,8 +13,8 @@ use lib.ListN.{length, drop, take, length-drop, drop_of_length-le}
 use lib.Dec.{eqb, ltb}
 use lib.Seq.{drop-cons}
 use borrow.Author.Tests.{lt-ltb, le-ltb, eq-eqb, ne_eqb}
-use Rattle.memchr.specs.First.{Either, First}
-use Rattle.memchr.proofs.Firsts.{split}
+use Rattle.byte_search.specs.First.{Either, First}
+use Rattle.byte_search.proofs.Firsts.{split}
 use Rattle.words.proofs.Shared.{cond_elim}
 use Rattle.dalvik.specs.Numbers.{byte}
 use Rattle.refusal.specs.Refusals.{is_too_large}

@@ -1,5 +1,7 @@
 // The bytes of one string (`string_data_bytes` of string_locator.rs): an answer that says where they stand or why they are
 // refused, and beside it the stretch of the file itself.
+#![tactic(auto)]
+
 ghost use Rattle.std.specs.Prelude.{◌≡◌};
 ghost use Rattle.string_data.specs.Text.{first_zero, says, text_from, string_text, stretch_of};
 
@@ -23,7 +25,7 @@ pub enum StringText {
 pub fn first_zero(file: &[u8], from: usize) -> Zero
     ensures { result ≡ first_zero file.now from }
 {
-    let at = memchr::memchr(0, file, from, file.len());
+    let at = byte_search::memchr(0, file, from, file.len());
     if at < file.len() {
         return Zero::After(at - from);
     }

@@ -1,5 +1,7 @@
 // The string map (`_build_map` of string_locator.rs): a key of data offset and index for each string, sorted, and the area of the
 // file in which all their texts lie.
+#![tactic(auto)]
+
 ghost use Rattle.std.specs.Prelude.{◌≡◌, ◌+◌, ◌<◌, length};
 ghost use Rattle.dalvik.specs.Ids.{string_data_off};
 ghost use Rattle.sort_keys.specs.Sorted.{sorted};

@@ -9,14 +9,14 @@ use mathlib.Core.Logic.{◌⊎◌, inl, inr, ⊎_elim}
 use mathlib.Core.List.{List}
 use lib.ListN.{length, get_or}
 use native.Mathlib.Omega.{arith}
-use Rattle.memchr.specs.First as Jump
-use Rattle.memchr.specs.First.{Both}
-use Rattle.memchr.proofs.Firsts.{onward}
+use Rattle.byte_search.specs.First as Jump
+use Rattle.byte_search.specs.First.{Both}
+use Rattle.byte_search.proofs.Firsts.{onward}
 use Rattle.word_set.proofs.Sets.{below_or_not}
 use Rattle.string_search.specs.declared.Owner.TheVariants.{Entry}
-use Rattle.memchr.specs.Occurs.{Stands, Occurs}
+use Rattle.byte_search.specs.Occurs.{Stands, Occurs}
 use Rattle.string_search.specs.Finds.{First, Find, leftmost, further}
-use Rattle.memchr.proofs.Occurs.{byte_stands}
+use Rattle.byte_search.proofs.Occurs.{byte_stands}
 use Rattle.string_search.specs.Owner.{owner}
 use Rattle.string_search.specs.Search.{OwnsFrom}
 

@@ -16,10 +16,10 @@ use Rattle.word_set.proofs.Found.{matched_same}
 use Rattle.word_set.proofs.Sets.{below_or_not, Listed, set_none, set_with, set_same}
 use Rattle.string_search.specs.declared.Owner.{Owner}
 use Rattle.string_search.specs.declared.Owner.TheVariants.{Entry, Absent}
-use Rattle.memchr.specs.Occurs.{Occurs}
+use Rattle.byte_search.specs.Occurs.{Occurs}
 use Rattle.string_search.specs.Finds.{First, Find, leftmost, further}
 use Rattle.string_search.specs.Owner.{owner}
-use Rattle.memchr.proofs.Occurs.{occurs_or_not}
+use Rattle.byte_search.proofs.Occurs.{occurs_or_not}
 use Rattle.string_search.specs.Search.{OwnsFrom, Area, Owns}
 use Rattle.string_search.proofs.Finds.{owned-first, first-owned, later-owned, none_owned}
 

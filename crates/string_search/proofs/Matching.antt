@@ -15,7 +15,7 @@ use Rattle.index_set.proofs.Marking.{Marking, mark-pass, mark-add, mark-full}
 use Rattle.string_search.specs.declared.Next.{Next}
 use Rattle.string_search.specs.declared.Next.TheVariants.{At, Nothing}
 use Rattle.string_search.specs.declared.Owner.TheVariants.{Entry}
-use Rattle.memchr.specs.Occurs.{Occurs}
+use Rattle.byte_search.specs.Occurs.{Occurs}
 use Rattle.string_search.specs.Steps.{NextFind, at_place, no_more}
 use Rattle.string_search.specs.Finds.{First}
 use Rattle.string_search.specs.Owner.{owner}

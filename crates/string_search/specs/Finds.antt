@@ -4,7 +4,7 @@
 -- A place is an offset in the file s; the area ends before e.
 -- Assumes nothing.
 use Rattle.std.specs.Prelude.{ℕ, ◌+◌, ◌≤◌, ◌<◌, List, length}
-use Rattle.memchr.specs.Occurs.{Occurs}
+use Rattle.byte_search.specs.Occurs.{Occurs}
 
 -- p is the first occurrence at or after `from`
 pub record First (s q : List ℕ) (e from p : ℕ) : Type 0 where

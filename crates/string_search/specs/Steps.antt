@@ -7,7 +7,7 @@ use Rattle.refusal.specs.Refusals.{largest_file}
 use Rattle.word_set.specs.declared.Insertion.{Insertion}
 use Rattle.word_set.specs.declared.Insertion.TheVariants.{Held}
 use Rattle.index_set.specs.Marked.{SetWords, Added}
-use Rattle.memchr.specs.Occurs.{Occurs}
+use Rattle.byte_search.specs.Occurs.{Occurs}
 use Rattle.string_search.specs.declared.Next.{Next}
 use Rattle.string_search.specs.declared.Next.TheVariants.{At, Nothing}
 use Rattle.string_search.specs.Finds.{First}

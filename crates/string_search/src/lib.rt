@@ -1,5 +1,7 @@
 // String search (`_match_string_offset` of string_locator.rs): the indices of the strings in which the query's bytes are found. The
 // text area is read once; the owner of each find is looked up among the sorted keys, and marked.
+#![tactic(auto)]
+
 mod keys; // keys.rt: which lent keys a search takes
 
 ghost use Rattle.std.specs.Prelude.{◌≡◌, ◌+◌, ◌≤◌, ◌<◌, length};
@@ -8,7 +10,7 @@ ghost use Rattle.word_set.specs.Found.{Found, fault_number};
 ghost use Rattle.word_set.specs.Steps.{Decides, Matched};
 ghost use Rattle.index_set.specs.Marked.{set_words};
 ghost use Rattle.index_set.specs.Steps.{Blank};
-ghost use Rattle.memchr.specs.Occurs.{Stands};
+ghost use Rattle.byte_search.specs.Occurs.{Stands};
 ghost use Rattle.string_search.specs.Search.{OwnsFrom, area, Owns, search_fault};
 ghost use Rattle.string_search.specs.Owner.{owner};
 ghost use Rattle.string_search.specs.Steps.{Searched, NextFind, Stepped, Ready};
@@ -53,12 +55,12 @@ fn next_find(file: &[u8], from: usize, end: usize, query: &[u8]) -> Next
     let last = query.len() - 1;
     let a = query[0];
     let b = query[last];
-    let mut at = memchr::pair(a, b, last, file, from, end);
+    let mut at = byte_search::pair(a, b, last, file, from, end);
     while at + last < end {
         if stands_at(file, at, query) {
             return Next::At(at);
         }
-        at = memchr::pair(a, b, last, file, at + 1, end);
+        at = byte_search::pair(a, b, last, file, at + 1, end);
     }
     Next::Nothing
 }

@@ -19,7 +19,7 @@ use Rattle.refusal.specs.Refusals.{refusal_number, largest_file, is_too_large}
 use Rattle.refusal.specs.declared.Refusal.{Refusal}
 use Rattle.refusal.specs.declared.Refusal.TheVariants.{StringOutside}
 use Rattle.refusal.proofs.Numbers.{numbered}
-use Rattle.memchr.specs.First.{Either, First}
+use Rattle.byte_search.specs.First.{Either, First}
 use Rattle.string_data.specs.Text.{Found, none, found, first_zero, text_from, after_length, string_text}
 use Rattle.string_texts.specs.Starts.{text_at}
 use Rattle.string_texts.specs.declared.Start.{Start}

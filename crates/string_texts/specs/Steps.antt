@@ -6,7 +6,7 @@ use Rattle.dalvik.specs.Numbers.{byte}
 use Rattle.dalvik.specs.Ids.{item, string_id_size}
 use Rattle.refusal.specs.Refusals.{refusal_number, largest_file}
 use Rattle.refusal.specs.declared.Refusal.TheVariants.{LentTooShort}
-use Rattle.memchr.specs.First.{Either, First}
+use Rattle.byte_search.specs.First.{Either, First}
 use Rattle.string_data.specs.Text.{Found, string_text}
 use Rattle.string_texts.specs.declared.Start.{Start}
 use Rattle.string_texts.specs.declared.Start.TheVariants as b

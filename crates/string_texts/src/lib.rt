@@ -1,5 +1,7 @@
 // The texts of a file's strings: where each begins, as sorted keys, and a place that no text reaches past. A string's fault is found
 // without a look at its text, so that any number of strings on one text take time by their number alone.
+#![tactic(auto)]
+
 ghost use Rattle.std.specs.Prelude.{◌≡◌, ◌+◌, max, set};
 ghost use Rattle.string_data.specs.Text.{after_length, string_text};
 ghost use Rattle.string_texts.specs.Starts.{text_at};
@@ -135,7 +137,7 @@ fn finish(file: &[u8], last: usize, n: usize, keys: &mut [u64]) -> Texts
         return Texts::Refused(Refusal::LentTooShort);
     }
     sort_keys::sort(&mut keys[..n]);
-    Texts::Until(memchr::memchr(0, file, last, file.len()))
+    Texts::Until(byte_search::memchr(0, file, last, file.len()))
 }
 
 // The keys in front of the lent words, sorted, and zeros after them; only zeros where it refuses.

@@ -1,5 +1,7 @@
 // Reads of 1, 2 and 4 bytes, little endian (structs.rs). Nothing is asked of the caller. Each comes in two forms: the number with zeros
 // past the file's end, and an answer that has a case of its own for bytes that are not inside the file.
+#![tactic(auto)]
+
 ghost use Rattle.std.specs.Prelude.{◌≡◌, ◌<◌};
 ghost use Rattle.dalvik.specs.Numbers.{le32};
 ghost use Rattle.structs.specs.Reads.{ByteAt, HalfAt, read16, read32};

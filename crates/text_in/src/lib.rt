@@ -1,4 +1,6 @@
 // What stands at a place of a text, a slice of bytes: a decimal number, a word, the end of a line.
+#![tactic(auto)]
+
 ghost use Rattle.std.specs.Prelude.{◌≡◌, ◌+◌, ◌<◌, ◌≤◌, length, drop};
 ghost use Rattle.std.proofs.Math.Seq.{slice};
 ghost use Rattle.text_in.specs.Numbers.{leading, value_read, number_at};

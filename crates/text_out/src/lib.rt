@@ -1,5 +1,7 @@
 // Text written into a lent slice of bytes, piece by piece: bytes and decimal numbers, each at a place, and at last a line feed. Text that
 // doesn't fit is refused with 4, and then every lent byte is zero.
+#![tactic(auto)]
+
 ghost use Rattle.std.specs.Prelude.{[], ◌∷◌, ◌++◌};
 ghost use Rattle.text_out.specs.Text.{decimal};
 ghost use Rattle.text_out.specs.Write.{Writes, end_at, Ends};

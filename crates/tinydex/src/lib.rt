@@ -1,4 +1,6 @@
 // The header record (`DEXHeader` of tinydex.rs), by value. It is taken as given: nothing here reads it out of a file.
+#![tactic(auto)]
+
 ghost use Rattle.std.specs.Prelude.{◌≡◌};
 ghost use Rattle.dalvik.specs.Ids.{item as item_at};
 

@@ -1,4 +1,6 @@
 // The type ids by the string that names the type (type_locator.rs). Thin over `groups`.
+#![tactic(auto)]
+
 ghost use Rattle.std.specs.Prelude.{◌≡◌};
 ghost use Rattle.groups.specs.Stretch.{stretch_of};
 ghost use Rattle.groups.specs.Built.{group_words, Gives};

@@ -1,4 +1,6 @@
 // Type search (`TypeLocator::locate` of type_locator.rs): the types that are named by a string in which the query is found.
+#![tactic(auto)]
+
 ghost use Rattle.word_set.specs.Steps.{Matched};
 ghost use Rattle.index_set.specs.Steps.{Blank};
 ghost use Rattle.type_search.specs.Steps.{TypesOf, Ready};

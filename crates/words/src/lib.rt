@@ -1,5 +1,7 @@
 // Lent slices of numbers: filled and cleared, at each width; and the small total operations that definitions and code share: a read past
 // the end is 0, a difference below 0 is 0, a store past the end changes nothing.
+#![tactic(auto)]
+
 ghost use Rattle.std.specs.Prelude.{◌≡◌, ◌-◌, min, max, length, replicate, get_or, set};
 
 // Every word of w becomes v.

@@ -1,7 +1,7 @@
 -- The bytes before k agree.
 -- Assumes nothing.
 use Rattle.word_set.proofs.Decides.{decided_yes, decided_no}
-use Rattle.memchr.proofs.Occurs.{stands_bytes, byte_stands}
+use Rattle.byte_search.proofs.Occurs.{stands_bytes, byte_stands}
 use lib.ListN.{length, get_or}
 use borrow.Author.Count.{below_more}
 use mathlib.Core.Path.{◌≡◌}

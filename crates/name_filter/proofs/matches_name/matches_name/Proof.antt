@@ -3,7 +3,7 @@
 use Rattle.word_set.proofs.Decides.{decided_yes, decided_no}
 use Rattle.name_filter.proofs.HasName.{has_empty_of, has_short, has_at, has_none, room_at, search-start, search-next, search-less}
 use Rattle.name_filter.specs.HasName.{lower_case}
-use Rattle.memchr.specs.Occurs.{Stands}
+use Rattle.byte_search.specs.Occurs.{Stands}
 use mathlib.Core.List.{map}
 use Prim.Native.Nat.{ℕ, ◌-◌, ◌≤◌, ◌<◌}
 use borrow.Author.Rules.{rules}

@@ -1,0 +1,11 @@
+-- The word holds the entries from place i on; each turn puts the one before it below them.
+-- Assumes nothing.
+use Prim.Native.Nat.{◌-◌}
+use Rattle.opcodes.proofs.Packed.{Held}
+use Rattle.opcodes.proofs.entry.sixteen.Given as goal
+
+abbrev pub invariant-loop-i : goal.invariant-loop-i
+invariant-loop-i l = Held l.from l.i l.word
+
+abbrev pub decreases-loop-i : goal.decreases-loop-i
+decreases-loop-i l = l.i
