@@ -194,7 +194,7 @@ pub fn tell_found(
 }
 
 // Where a group stands.
-#[derive(Drop)]
+#[derive(Clone, Copy)]
 pub struct Span {
     pub start: usize,
     pub count: usize,

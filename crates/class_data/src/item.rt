@@ -15,14 +15,14 @@ const WORD: u64 = 4294967296;
 const MOST_METHODS: u32 = 16777216;
 
 // An offset, where there is one.
-#[derive(Drop)]
+#[derive(Clone, Copy)]
 pub(crate) enum Offset {
     At(usize),
     Nowhere,
 }
 
 // The offset after some numbers, or why one of them is refused.
-#[derive(Drop)]
+#[derive(Clone, Copy)]
 enum Skipped {
     To(usize),
     Refused(Refusal),
@@ -49,7 +49,7 @@ fn skip_numbers(buf: &[u8], pos: usize, n: u64) -> Skipped
 }
 
 // Two numbers one after another, and the offset after them. Read here for class_sizes alone: with a second caller it would stay a call.
-#[derive(Drop)]
+#[derive(Clone, Copy)]
 enum Two {
     At { first: u32, second: u32, pos: usize },
     Refused(Refusal),
@@ -78,7 +78,7 @@ fn read_two(buf: &[u8], pos: usize) -> Two
 }
 
 // The sizes that open a class data item: how many numbers its fields have, its direct and its virtual methods; and the offset after them.
-#[derive(Drop)]
+#[derive(Clone, Copy)]
 enum Sizes {
     At {
         fields: u64,
@@ -126,7 +126,7 @@ fn class_sizes(buf: &[u8], pos: usize) -> Sizes
 }
 
 // How many direct and virtual methods a class data item has, and the offset of the first: the sizes read, the fields skipped.
-#[derive(Drop)]
+#[derive(Clone, Copy)]
 pub(crate) enum Methods {
     At { direct: u32, virt: u32, pos: usize },
     Refused(Refusal),
@@ -154,7 +154,7 @@ pub(crate) fn class_methods(buf: &[u8], pos: usize) -> Methods
 }
 
 // The three numbers of a method: its index, its code offset, and the offset after them. Read one by one: see read_two.
-#[derive(Drop)]
+#[derive(Clone, Copy)]
 enum Head {
     At { pos: usize, idx: u32, code: u32 },
     Refused(Refusal),
@@ -196,7 +196,7 @@ fn method_head(buf: &[u8], pos: usize, idx: u32) -> Head
 }
 
 // The units of a code item.
-#[derive(Drop)]
+#[derive(Clone, Copy)]
 enum Item {
     Units(u32),
     Outside,
@@ -219,7 +219,7 @@ fn code_item(buf: &[u8], code: u32) -> Item
 }
 
 // A method, and its code where it has one: the offset after it, its index, the code item and its units.
-#[derive(Drop)]
+#[derive(Clone, Copy)]
 pub(crate) enum Method {
     Bare {
         pos: usize,

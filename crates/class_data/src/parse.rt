@@ -33,14 +33,14 @@ fn store(triples: &mut [u32], starts: &mut [u32], k: usize, idx: u32, code: u32,
 }
 
 // Where a walk over methods stands: the next offset, the index before it, and how many codes were found.
-#[derive(Drop)]
+#[derive(Clone, Copy)]
 struct At {
     pub pos: usize,
     pub idx: u32,
     pub count: usize,
 }
 
-#[derive(Drop)]
+#[derive(Clone, Copy)]
 enum Step {
     On(At),
     Refused(Refusal),
@@ -77,7 +77,7 @@ fn encoded_method(buf: &[u8], methods: u32, w: At, triples: &mut [u32], starts: 
 }
 
 // The end of a walk: the offset after it, and how many codes were found.
-#[derive(Drop)]
+#[derive(Clone, Copy)]
 pub(crate) enum Walked {
     Found { next: usize, count: usize },
     Refused(Refusal),

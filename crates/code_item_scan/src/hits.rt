@@ -11,7 +11,7 @@ use super::{Found, reads, wanted};
 use kinds::Kind;
 
 // What stands at one start: the index of a hit, or nothing.
-#[derive(Drop)]
+#[derive(Clone, Copy)]
 enum Hit {
     Mark(u32),
     Nothing,

@@ -20,7 +20,7 @@ use refusal::Answer;
 use refusals::Admission;
 
 // A hit, and the start from which to look for the next; or none up to the end.
-#[derive(Drop)]
+#[derive(Clone, Copy)]
 pub enum Found {
     At { off: usize, mark: u32, next: usize },
     Nothing,

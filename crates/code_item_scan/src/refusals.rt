@@ -6,7 +6,7 @@ use kinds::{Kind, KindRead};
 use refusal::{Answer, Refusal};
 
 // Whether a region is scanned, and for which kind, or why not.
-#[derive(Drop)]
+#[derive(Clone, Copy)]
 pub(crate) enum Admission {
     Scan(Kind),
     Refuse(Refusal),

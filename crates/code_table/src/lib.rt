@@ -18,14 +18,14 @@ use tinydex::DexHeader;
 pub const SHARED: u32 = 2147483648;
 
 // The bytes that hold code: from the first byte of the least bucket up to the end of the greatest, or of the file if that comes first.
-#[derive(Drop)]
+#[derive(Clone, Copy)]
 pub struct Region {
     pub start: u32,
     pub end: u32,
 }
 
 // The region, and how many codes were found and how many slots and words of shares are in use; or a refusal.
-#[derive(Drop)]
+#[derive(Clone, Copy)]
 pub enum Built {
     Done {
         region: Region,
@@ -37,14 +37,14 @@ pub enum Built {
 }
 
 // What placing codes leaves: how many words of shares are in use, or a share found no room.
-#[derive(Drop)]
+#[derive(Clone, Copy)]
 enum Placed {
     Done(usize),
     Full,
 }
 
 // The slots and shares of all codes: the least bucket, one more than the greatest, and how many words of shares.
-#[derive(Drop)]
+#[derive(Clone, Copy)]
 enum Tabled {
     Filled { base: u32, top: u32, used: usize },
     Short,

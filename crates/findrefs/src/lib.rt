@@ -21,7 +21,7 @@ use refusal::{Answer, Refusal};
 use tinydex::DexHeader;
 
 // The code region and how many entries the scan found; or a refusal.
-#[derive(Drop)]
+#[derive(Clone, Copy)]
 pub enum Found {
     Done { region: Region, hits: usize },
     Refused(Refusal),

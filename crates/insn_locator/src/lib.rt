@@ -11,14 +11,14 @@ ghost use Rattle.insn_locator.specs.Locate.{slot_at, first_of, from_of, tried, a
 ghost use Rattle.insn_locator.specs.Steps.{first_value, Tried, GoesOn, EntryIn, ReadyOn, climbs, RunPre, stored, ran_to};
 
 // The first method of a slot, where its share is inside.
-#[derive(Drop)]
+#[derive(Clone, Copy)]
 enum First {
     Method(u32),
     Missing,
 }
 
 // An entry's answer, or a table that does not hold what is needed.
-#[derive(Drop)]
+#[derive(Clone, Copy)]
 pub enum Entry {
     Word(u32),
     Fault,

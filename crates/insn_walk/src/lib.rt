@@ -7,14 +7,14 @@ ghost use Rattle.insn_walk.specs.Answer.{Walks};
 ghost use Rattle.insn_walk.specs.Steps.{AtZero, PayloadAt, next_of};
 
 // Where a walk goes on.
-#[derive(Drop)]
+#[derive(Clone, Copy)]
 enum Advance {
     Next(usize),
     Stuck,
 }
 
 // Whether a walk lands on its target, how many steps it took, and where it stands: the last place of it that is not past the target.
-#[derive(Drop)]
+#[derive(Clone, Copy)]
 pub struct Walked {
     pub lands: bool,
     pub steps: usize,

@@ -7,7 +7,7 @@ ghost use Rattle.kinds.specs.Kinds.{kind_of, is_strings, meant, kind_read};
 ghost use Rattle.kinds.specs.Width.{width_of};
 
 // What the index names: the kinds 1 to 4 (SPEC, Conventions).
-#[derive(Drop)]
+#[derive(Clone, Copy)]
 pub enum Kind {
     Strings,
     Types,
@@ -15,7 +15,7 @@ pub enum Kind {
     Methods,
 }
 
-#[derive(Drop)]
+#[derive(Clone, Copy)]
 pub enum KindRead {
     Known(Kind),
     Unknown,

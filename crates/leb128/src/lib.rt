@@ -8,14 +8,14 @@ ghost use Rattle.leb128.specs.Leb.{uleb_fast, uleb_len, Published, PublishedLen}
 use refusal::Refusal;
 
 // A number and how many bytes it has, or why it is refused.
-#[derive(Drop)]
+#[derive(Clone, Copy)]
 pub enum Uleb {
     Number { value: u32, len: usize },
     Refused(Refusal),
 }
 
 // How many bytes a number has, or why it is refused.
-#[derive(Drop)]
+#[derive(Clone, Copy)]
 pub enum Len {
     Bytes(usize),
     Refused(Refusal),

@@ -12,7 +12,7 @@ use refusal::{Answer, Refusal};
 use tinydex::DexHeader;
 
 // How many method ids are grouped by class and how many by name, or why the build refused.
-#[derive(Drop)]
+#[derive(Clone, Copy)]
 pub enum Built {
     Done { clz: usize, name: usize },
     Refused(Refusal),

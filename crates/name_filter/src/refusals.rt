@@ -12,7 +12,7 @@ use string_data::StringText;
 use word_set::Fault;
 
 // Whether a text contains the query, or why the text is refused.
-#[derive(Drop)]
+#[derive(Clone, Copy)]
 pub(crate) enum Verdict {
     Known(bool),
     Refused(Refusal),

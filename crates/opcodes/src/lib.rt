@@ -7,7 +7,7 @@ ghost use Rattle.std.specs.Prelude.{◌≡◌};
 ghost use Rattle.opcodes.specs.Length.{length_read};
 
 // How many units of two bytes an instruction has, where its opcode has a length.
-#[derive(Drop)]
+#[derive(Clone, Copy)]
 pub enum Length {
     Units(usize),
     Nothing,

@@ -5,7 +5,7 @@ ghost use Rattle.std.specs.Prelude.{◌≡◌};
 ghost use Rattle.refusal.specs.Refusals.{refusal_number, is_too_large};
 
 // Why an operation refused. SPEC, Conventions, gives each a number; `number` has them.
-#[derive(Drop)]
+#[derive(Clone, Copy)]
 pub enum Refusal {
     // The file has more than 16,777,216 bytes.
     FileTooLarge,
@@ -42,7 +42,7 @@ pub enum Refusal {
 }
 
 // What an operation over lent words answers: how many words its result has, or why it refused.
-#[derive(Drop)]
+#[derive(Clone, Copy)]
 pub enum Answer {
     Done(usize),
     Refused(Refusal),

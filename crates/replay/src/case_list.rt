@@ -22,7 +22,7 @@ const PARTS: u8 = 10;
 // ---- reading
 
 // The next place, or there is no whole case.
-#[derive(Drop)]
+#[derive(Clone, Copy)]
 pub(crate) enum Step {
     To(usize),
     Bad,

@@ -13,20 +13,20 @@ use text_in::{Number, Place};
 use tinydex::{DexHeader, Table};
 
 // The record, and the place after its lines.
-#[derive(Drop)]
+#[derive(Clone, Copy)]
 enum Header {
     At { header: DexHeader, next: usize },
     Nothing,
 }
 
 // How many indices were read, and the place after them.
-#[derive(Drop)]
+#[derive(Clone, Copy)]
 enum Indices {
     Read { count: usize, next: usize },
     Nothing,
 }
 
-#[derive(Drop)]
+#[derive(Clone, Copy)]
 pub enum Request {
     Asked {
         header: DexHeader,

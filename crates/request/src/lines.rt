@@ -6,7 +6,7 @@ use text_in::{Number, Place};
 use tinydex::Table;
 
 // The offset and the size of a table, and the place after their line.
-#[derive(Drop)]
+#[derive(Clone, Copy)]
 pub(crate) enum Pair {
     At { table: Table, next: usize },
     Nothing,

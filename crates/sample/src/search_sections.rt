@@ -25,7 +25,7 @@ fn searches(file: &[u8], keys: &[u64], start: usize, end: usize) {
 }
 
 // A string map; `built` is false where it was refused.
-#[derive(Drop)]
+#[derive(Clone, Copy)]
 struct StringArea {
     built: bool,
     start: usize,

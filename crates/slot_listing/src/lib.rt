@@ -8,7 +8,7 @@ ghost use Rattle.slot_listing.specs.Steps.{methods_of, count_of, list_by};
 ghost use Rattle.slot_listing.specs.declared.Chain.TheVariants.{Count};
 
 // How many methods a share has, where it and its earlier shares are as they must be.
-#[derive(Drop)]
+#[derive(Clone, Copy)]
 enum Chain {
     Count(usize),
     Broken,

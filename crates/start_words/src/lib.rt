@@ -7,7 +7,7 @@ ghost use Rattle.start_words.specs.Starts.{pair_count, pair_of, first_starts, wi
 ghost use Rattle.start_words.specs.Read.{pair_read};
 
 // A method's pair: where its array starts, and the first offset after it. A method without both words has none.
-#[derive(Drop)]
+#[derive(Clone, Copy)]
 pub enum ReadPair {
     Both { start: u32, end: u32 },
     Missing,

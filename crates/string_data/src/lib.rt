@@ -8,14 +8,14 @@ ghost use Rattle.string_data.specs.Text.{first_zero, says, text_from, string_tex
 use refusal::Refusal;
 
 // How many bytes stand before the first zero byte.
-#[derive(Drop)]
+#[derive(Clone, Copy)]
 pub enum Zero {
     After(usize),
     Nothing,
 }
 
 // Where the text of a string starts and how many bytes it has, or why it is refused.
-#[derive(Drop)]
+#[derive(Clone, Copy)]
 pub enum StringText {
     Text { start: usize, len: usize },
     Refused(Refusal),

@@ -15,7 +15,7 @@ use structs::Read32;
 use tinydex::{DexHeader, Table};
 
 // The text area and how many keys there are, or why there is no map.
-#[derive(Drop)]
+#[derive(Clone, Copy)]
 pub enum StringMap {
     Map {
         start: usize,
@@ -26,7 +26,7 @@ pub enum StringMap {
 }
 
 // The least and the greatest data offset.
-#[derive(Drop)]
+#[derive(Clone, Copy)]
 struct Bounds {
     least: u32,
     greatest: u32,
@@ -64,7 +64,7 @@ fn offset_bounds(file: &[u8], table: usize, n: usize) -> Bounds
 }
 
 // How many length bytes string data have.
-#[derive(Drop)]
+#[derive(Clone, Copy)]
 enum Length {
     Bytes(usize),
     Nothing,

@@ -19,14 +19,14 @@ use refusal::{Answer, Refusal};
 use word_set::{Fault, Insertion};
 
 // The string in which a find begins: the entry of a key, by its index, or none.
-#[derive(Drop)]
+#[derive(Clone, Copy)]
 pub enum Owner {
     Entry(u32),
     Absent,
 }
 
 // The next find.
-#[derive(Drop)]
+#[derive(Clone, Copy)]
 pub enum Next {
     At(usize),
     Nothing,

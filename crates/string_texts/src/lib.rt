@@ -12,14 +12,14 @@ use refusal::Refusal;
 use tinydex::Table;
 
 // The place after the last text's bytes, or why there are no keys.
-#[derive(Drop)]
+#[derive(Clone, Copy)]
 pub enum Texts {
     Until(usize),
     Refused(Refusal),
 }
 
 // Where the text of a string starts, or why its length is refused.
-#[derive(Drop)]
+#[derive(Clone, Copy)]
 pub enum Start {
     At(usize),
     Refused(Refusal),

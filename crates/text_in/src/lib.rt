@@ -8,21 +8,21 @@ ghost use Rattle.text_in.specs.Steps.{Digit};
 ghost use Rattle.text_in.specs.Words.{word_at, line_end};
 
 // A number and the place after it.
-#[derive(Drop)]
+#[derive(Clone, Copy)]
 pub enum Number {
     Value { value: u32, next: usize },
     Nothing,
 }
 
 // The place after what was looked for.
-#[derive(Drop)]
+#[derive(Clone, Copy)]
 pub enum Place {
     At(usize),
     Nothing,
 }
 
 // A number that fits a word.
-#[derive(Drop)]
+#[derive(Clone, Copy)]
 pub enum Word {
     Fits(u32),
     Large,

@@ -5,13 +5,13 @@ ghost use Rattle.std.specs.Prelude.{◌≡◌};
 ghost use Rattle.dalvik.specs.Ids.{item as item_at};
 
 // Where a table of items begins, and how many items it has.
-#[derive(Drop)]
+#[derive(Clone, Copy)]
 pub struct Table {
     pub off: u32,
     pub size: u32,
 }
 
-#[derive(Drop)]
+#[derive(Clone, Copy)]
 pub struct DexHeader {
     pub strings: Table,
     pub types: Table,

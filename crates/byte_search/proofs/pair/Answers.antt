@@ -5,10 +5,11 @@ use mathlib.Core.Path.{◌≡◌}
 use lib.ListN.{length}
 use native.Mathlib.Omega.{arith}
 use Rattle.byte_search.proofs.Firsts.{first_upto, first_none, block_first}
+use Rattle.byte_search.proofs.pair.Goals.{After-minus-to}
 use Rattle.byte_search.proofs.pair.Goals as goal
 
 -- where the stretch ends
-ends : (c : goal.After-minus)
+ends : (c : After-minus-to)
     → let a = c.args in
     c.minus-to.result ≡ min a.end (length a.s.now) - a.d
 ends c = omega (arith, c.lesser.ensures, c.minus-to.ensures)

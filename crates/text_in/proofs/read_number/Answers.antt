@@ -3,6 +3,7 @@
 use native.Mathlib.Omega.{arith}
 use Rattle.words.proofs.Shared.{met}
 use Rattle.text_in.proofs.Laws.{number_past, number_none, number_large, number_some, digits_inside}
+use borrow.Author.Rules.{rules}
 use Rattle.text_in.proofs.read_number.Goals as goal
 
 pub returns-then-text-at : goal.returns-then-text-at
@@ -16,12 +17,20 @@ value-requires c =
     let a = c.args in
     (omega (arith, c.digits_end-end.ensures), omega (arith, c.digits_end-end.ensures, digits_inside a.text.now a.at (omega arith)))
 
+-- UNMAPPED enum-known-v
+-- enum-known-v : tie.Need-enum-known-v
+-- enum-known-v c = search rules
+
+-- UNMAPPED enum_told
+-- enum_told : tie.Need-enum-told
+-- enum_told c = search rules
+
 pub returns-in_default : goal.returns-in_default
 returns-in_default c =
     number_large _ _ _ c.digits_end-end.ensures c.if-end-at.false
-    (met c.enum_told-1.given.1 c.value.ensures)
+    (met c.in_default.is c.value.ensures)
 
 pub returns : goal.returns
 returns c =
     number_some _ _ _ c.digits_end-end.ensures _ c.if-end-at.false
-    (met c.v-1.given.1 c.value.ensures)
+    (met c.in-Fits.is c.value.ensures)

@@ -19,50 +19,50 @@ at : {upper k word : ℕ} → upper ≡ k → word ≡ packed (16 * k) 16 → wo
 at e f = f ∙ ap (λ (u : ℕ). packed (16 * u) 16) (sym e)
 
 pub returns-in-0 : goal.returns-in-0
-returns-in-0 c = at {k = 0} c.in-0.keys1 c.sixteen.ensures
+returns-in-0 c = at {k = 0} c.in-0.is c.sixteen.ensures
 
 pub returns-in-1 : goal.returns-in-1
-returns-in-1 c = at {k = 1} c.in-1.keys2 c.sixteen-in-1.ensures
+returns-in-1 c = at {k = 1} c.in-1.is c.sixteen-in-1.ensures
 
 pub returns-in-2 : goal.returns-in-2
-returns-in-2 c = at {k = 2} c.in-2.keys3 c.sixteen-in-2.ensures
+returns-in-2 c = at {k = 2} c.in-2.is c.sixteen-in-2.ensures
 
 pub returns-in-3 : goal.returns-in-3
-returns-in-3 c = at {k = 3} c.in-3.keys4 c.sixteen-in-3.ensures
+returns-in-3 c = at {k = 3} c.in-3.is c.sixteen-in-3.ensures
 
 pub returns-in-4 : goal.returns-in-4
-returns-in-4 c = at {k = 4} c.in-4.keys5 c.sixteen-in-4.ensures
+returns-in-4 c = at {k = 4} c.in-4.is c.sixteen-in-4.ensures
 
 pub returns-in-5 : goal.returns-in-5
-returns-in-5 c = at {k = 5} c.in-5.keys6 c.sixteen-in-5.ensures
+returns-in-5 c = at {k = 5} c.in-5.is c.sixteen-in-5.ensures
 
 pub returns-in-6 : goal.returns-in-6
-returns-in-6 c = at {k = 6} c.in-6.keys7 c.sixteen-in-6.ensures
+returns-in-6 c = at {k = 6} c.in-6.is c.sixteen-in-6.ensures
 
 pub returns-in-7 : goal.returns-in-7
-returns-in-7 c = at {k = 7} c.in-7.keys8 c.sixteen-in-7.ensures
+returns-in-7 c = at {k = 7} c.in-7.is c.sixteen-in-7.ensures
 
 pub returns-in-8 : goal.returns-in-8
-returns-in-8 c = at {k = 8} c.in-8.keys9 c.sixteen-in-8.ensures
+returns-in-8 c = at {k = 8} c.in-8.is c.sixteen-in-8.ensures
 
 pub returns-in-9 : goal.returns-in-9
-returns-in-9 c = at {k = 9} c.in-9.keys10 c.sixteen-in-9.ensures
+returns-in-9 c = at {k = 9} c.in-9.is c.sixteen-in-9.ensures
 
 pub returns-in-10 : goal.returns-in-10
-returns-in-10 c = at {k = 10} c.in-10.keys11 c.sixteen-in-10.ensures
+returns-in-10 c = at {k = 10} c.in-10.is c.sixteen-in-10.ensures
 
 pub returns-in-11 : goal.returns-in-11
-returns-in-11 c = at {k = 11} c.in-11.keys12 c.sixteen-in-11.ensures
+returns-in-11 c = at {k = 11} c.in-11.is c.sixteen-in-11.ensures
 
 pub returns-in-12 : goal.returns-in-12
-returns-in-12 c = at {k = 12} c.in-12.keys13 c.sixteen-in-12.ensures
+returns-in-12 c = at {k = 12} c.in-12.is c.sixteen-in-12.ensures
 
 pub returns-in-13 : goal.returns-in-13
-returns-in-13 c = at {k = 13} c.in-13.keys14 c.sixteen-in-13.ensures
+returns-in-13 c = at {k = 13} c.in-13.is c.sixteen-in-13.ensures
 
 pub returns-in-14 : goal.returns-in-14
-returns-in-14 c = at {k = 14} c.in-14.keys15 c.sixteen-in-14.ensures
+returns-in-14 c = at {k = 14} c.in-14.is c.sixteen-in-14.ensures
 
 pub returns-in_default : goal.returns-in_default
 returns-in_default c =
-    at {k = 15} (sym (ranged (λ (u : ℕ). u) keys 15 0 16 tt (omega arith, c.requires.1) c.in_default.rest)) c.sixteen-in_default.ensures
+    at {k = 15} (sym (ranged (λ (u : ℕ). u) keys 15 0 16 tt (omega arith, c.requires.1) c.in_default.in_default-own.rest)) c.sixteen-in_default.ensures

@@ -1,0 +1,14 @@
+-- `request::read_indices` meets its contract: what is stored, and what is still to be read from here, are the whole list, of at most 16.
+-- Assumes nothing.
+use Prim.Native.Nat.{◌-◌, ◌≤◌}
+use mathlib.Core.Path.{◌≡◌}
+use lib.ListN.{length}
+use Rattle.request.specs.Request.{indices_at}
+use Rattle.request.specs.Steps.{stored}
+use Rattle.request.proofs.read_indices.Given as goal
+
+abbrev pub invariant-loop-n : goal.invariant-loop-n
+invariant-loop-n l = (n ≤ 16) × (length l.i ≡ length l.initial.wanted) × (stored n l.i (indices_at (16 - n) l.text l.n) ≡ stored 0 l.initial.wanted (indices_at 16 l.text l.at))
+
+abbrev pub decreases-loop-n : goal.decreases-loop-n
+decreases-loop-n l = 16 - n
