@@ -1,23 +1,11 @@
-use Prim.Native.Nat.{ℕ, ◌-◌, ◌≤◌, max}
-use mathlib.Core.Path.{◌≡◌, refl, sym, ap, ◌∙◌}
-use mathlib.Core.List.{List}
+use Prim.Native.Nat.{◌-◌}
+use mathlib.Core.Path.{refl, sym, ap, ◌∙◌}
 use native.Mathlib.Omega.{arith}
-use Rattle.insn_walk.specs.Walk.{after_steps, walk, lands}
 use Rattle.insn_walk.specs.Steps.{next_of}
 use Rattle.insn_walk.proofs.Steps.{step_outside, step_keeps}
 use Rattle.insn_walk.proofs.Walks.{after_none, lands_step, walk_on, walk_lands, walk_passes, walk_fails}
 use borrow.Author.Rules.{rules}
 use Rattle.insn_walk.proofs.walk.Goals as goal
-
--- the place before is `at`, and the place now `pos`
-record Going (s : List ℕ) (start end at pos steps : ℕ) : Type 0 where
-  taken : after_steps steps (walk s pos end) ≡ walk s start end
-  few : steps ≤ pos
-  stood : start ≤ at
-  stands : start ≤ pos
-  most : at ≤ max start end
-  before : (u : ℕ) → end ≤ u → lands s at u ≡ lands s start u
-  now : (u : ℕ) → end ≤ u → lands s pos u ≡ lands s start u
 
 pub loop-pos-init : goal.loop-pos-init
 loop-pos-init c = (
@@ -33,6 +21,14 @@ loop-pos-init c = (
   search rules,
   c.nearer-bound.ensures,
 )
+
+-- UNMAPPED enum-known-next
+-- enum-known-next : tie.Need-enum-known-next invariant-loop decreases-loop
+-- enum-known-next c = search rules
+
+-- UNMAPPED enum_told
+-- enum_told : tie.Need-enum-told invariant-loop decreases-loop
+-- enum_told c = search rules
 
 pub returns-in_default : goal.returns-in_default
 returns-in_default c =

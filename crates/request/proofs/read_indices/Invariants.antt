@@ -8,7 +8,7 @@ use Rattle.request.specs.Steps.{stored}
 use Rattle.request.proofs.read_indices.Given as goal
 
 abbrev pub invariant-loop-n : goal.invariant-loop-n
-invariant-loop-n l = (n ≤ 16) × (length l.i ≡ length l.initial.wanted) × (stored n l.i (indices_at (16 - n) l.text l.n) ≡ stored 0 l.initial.wanted (indices_at 16 l.text l.at))
+invariant-loop-n l = (l.n ≤ 16) × (length l.wanted ≡ length l.initial.wanted) × (stored l.n l.wanted (indices_at (16 - l.n) l.text l.i) ≡ stored 0 l.initial.wanted (indices_at 16 l.text l.at))
 
 abbrev pub decreases-loop-n : goal.decreases-loop-n
-decreases-loop-n l = 16 - n
+decreases-loop-n l = 16 - l.n

@@ -9,4 +9,4 @@ pub returns : goal.returns
 returns c =
     let d = c.decimal-k.ensures in
     let a = c.args in
-    rw (← (d.1.1 ∙ decimal_is a.n _ (omega arith) d.1.0)) c.put.ensures
+    rw (← (d.digits ∙ decimal_is a.n _ (omega arith) d.len)) c.put.ensures
