@@ -1,0 +1,34 @@
+-- `listing_text::entry` meets its contract: the pieces written into cleared bytes are the line's text in its order, and the
+-- line's end decides whether it fits.
+-- Assumes nothing.
+use mathlib.Core.List.{◌++◌}
+use Rattle.text_out.specs.Text.{decimal}
+use Rattle.text_out.proofs.Laws.{writes_then, writes_named, text_out}
+use Rattle.listing_text.specs.Text.{mids_text, off=, idx=, mids=, entry_out}
+use borrow.Author.Rules.{rules}
+use Rattle.listing_text.proofs.entry.Goals as goal
+
+-- UNMAPPED slice-aggregate-put-named
+-- slice-aggregate-put-named : tie.Need-slice-aggregate-put-named
+-- slice-aggregate-put-named c = search rules
+
+-- UNMAPPED slice-aggregate-put-named-2
+-- slice-aggregate-put-named-2 : tie.Need-slice-aggregate-put-named-2
+-- slice-aggregate-put-named-2 c = search rules
+
+-- UNMAPPED slice-aggregate-put
+-- slice-aggregate-put : tie.Need-slice-aggregate-put
+-- slice-aggregate-put c = search rules
+
+pub returns : goal.returns
+unfolding entry_out
+returns c =
+    let a = c.args in
+    text_out a.out.now (off= ++ decimal a.off ++ idx= ++ decimal a.idx ++ mids= ++ mids_text a.mids.now)
+    c.clear_bytes.ensures
+    (writes_then
+    (writes_then
+    (writes_named idx= (decimal a.idx) c.put_named-a.ensures c.put_named-b.ensures)
+    c.put-c.ensures)
+    c.put_mids-d.ensures)
+    c.end_line.ensures
