@@ -3,6 +3,8 @@
 // byte, though its instruction passes the end; the one at 74 is not, though a walk would land on it.
 #![tactic(auto)]
 
-fn main() {
-    refs_program::run();
+use std::io;
+
+fn main(rt: HostRuntime) -> io::Result<()> {
+    refs_program::run(&rt)
 }

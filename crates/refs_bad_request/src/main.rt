@@ -1,6 +1,8 @@
 // `refs` on the whole case (SPEC, The program refs), asked for 17 indices: refusal 14.
 #![tactic(auto)]
 
-fn main() {
-    refs_program::run();
+use std::io;
+
+fn main(rt: HostRuntime) -> io::Result<()> {
+    refs_program::run(&rt)
 }

@@ -1,6 +1,8 @@
 // `refs` on the whole case (SPEC, The program refs), cut a byte before its array's end, at 71 bytes: the code item is not inside: refusal 8.
 #![tactic(auto)]
 
-fn main() {
-    refs_program::run();
+use std::io;
+
+fn main(rt: HostRuntime) -> io::Result<()> {
+    refs_program::run(&rt)
 }

@@ -2,6 +2,8 @@
 // block, so the region ends with the file, and the answer is the whole case's.
 #![tactic(auto)]
 
-fn main() {
-    refs_program::run();
+use std::io;
+
+fn main(rt: HostRuntime) -> io::Result<()> {
+    refs_program::run(&rt)
 }

@@ -3,6 +3,8 @@
 // (move-wide/from16), 0e 00. The bytes 1a 00 05 00 at 72 look like a const-string of 5, but no instruction begins there.
 #![tactic(auto)]
 
-fn main() {
-    refs_program::run();
+use std::io;
+
+fn main(rt: HostRuntime) -> io::Result<()> {
+    refs_program::run(&rt)
 }

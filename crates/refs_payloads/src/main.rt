@@ -3,6 +3,8 @@
 // not. `make` assembles the file from smali/, and takes the request and the output from what dexdump and baksmali say of it.
 #![tactic(auto)]
 
-fn main() {
-    refs_program::run();
+use std::io;
+
+fn main(rt: HostRuntime) -> io::Result<()> {
+    refs_program::run(&rt)
 }

@@ -3,9 +3,11 @@
 #![tactic(auto)]
 
 use findrefs::Found;
-use libc::{STDIN_FILENO, STDOUT_FILENO};
 use refusal::{Answer, Refusal};
 use request::Request;
+use std::fs::File;
+use std::io;
+use std::rt::Files;
 use tinydex::DexHeader;
 
 // ---- printing
@@ -27,28 +29,27 @@ fn first(list: &[u32], n: usize) -> &[u32] {
 }
 
 // A text that was written. One that was refused is empty.
-fn print(answer: Answer, text: &[u8]) {
+fn print(rt: &impl Print, answer: Answer, text: &[u8]) -> io::Result<()> {
     match answer {
-        Answer::Done(n) => {
-            io::write_all(STDOUT_FILENO, first_bytes(text, n));
-        }
-        Answer::Refused(_) => {}
+        Answer::Done(n) => rt.write_all(first_bytes(text, n)),
+        Answer::Refused(_) => Ok(()),
     }
 }
 
-fn print_refusal(why: Refusal) {
-    let mut room = io::buffer();
+fn print_refusal(rt: &impl Print, why: Refusal) -> io::Result<()> {
+    let mut room = [0u8; 4096];
     let text: &mut [u8] = &mut room;
     let answer = listing_text::refused(why, text);
-    print(answer, text);
+    print(rt, answer, text)
 }
 
-fn print_head(kind: u32, hits: usize, text: &mut [u8]) {
+fn print_head(rt: &impl Print, kind: u32, hits: usize, text: &mut [u8]) -> io::Result<()> {
     let answer = listing_text::head(kind, hits, text);
-    print(answer, text);
+    print(rt, answer, text)
 }
 
 fn print_line(
+    rt: &impl Print,
     offs: &[u32],
     marks: &[u32],
     answers: &[u32],
@@ -56,27 +57,30 @@ fn print_line(
     i: usize,
     mids: &mut [u32],
     text: &mut [u8],
-) {
+) -> io::Result<()> {
     let answer = entry_lines::line_at(offs, marks, answers, shares, i, mids, text);
-    print(answer, text);
+    print(rt, answer, text)
 }
 
 fn print_lines(
+    rt: &impl Print,
     offs: &[u32],
     marks: &[u32],
     answers: &[u32],
     shares: &[u32],
     mids: &mut [u32],
     text: &mut [u8],
-) {
+) -> io::Result<()> {
     let mut i = 0;
     while i < offs.len() {
-        print_line(offs, marks, answers, shares, i, mids, text);
+        print_line(rt, offs, marks, answers, shares, i, mids, text)?;
         i += 1;
     }
+    Ok(())
 }
 
 fn print_entries(
+    rt: &impl Print,
     kind: u32,
     offs: &[u32],
     marks: &[u32],
@@ -84,37 +88,46 @@ fn print_entries(
     shares: &[u32],
     mids: &mut [u32],
     text: &mut [u8],
-) {
+) -> io::Result<()> {
     match entry_lines::try_lines(offs, marks, answers, shares, mids, text) {
-        Answer::Refused(why) => print_refusal(why),
+        Answer::Refused(why) => print_refusal(rt, why),
         Answer::Done(hits) => {
-            print_head(kind, hits, text);
-            print_lines(offs, marks, answers, shares, mids, text);
+            print_head(rt, kind, hits, text)?;
+            print_lines(rt, offs, marks, answers, shares, mids, text)
         }
     }
 }
 
 // A line has at most 45,091 bytes: 4,096 methods of ten digits with commas between them, and what stands around them. So it is refused
 // only as its listing is (`line-fits` of entry_lines).
-fn print_found(kind: u32, offs: &[u32], marks: &[u32], answers: &[u32], shares: &[u32]) {
+fn print_found(
+    rt: &impl Print,
+    kind: u32,
+    offs: &[u32],
+    marks: &[u32],
+    answers: &[u32],
+    shares: &[u32],
+) -> io::Result<()> {
     let mut mids = [0u32; 4096];
-    let mut text = io::large_buffer();
-    print_entries(kind, offs, marks, answers, shares, &mut mids, &mut text);
+    let mut text = [0u8; 65536];
+    print_entries(rt, kind, offs, marks, answers, shares, &mut mids, &mut text)
 }
 
 // ---- finding
 
 fn print_answer(
+    rt: &impl Print,
     found: Found,
     kind: u32,
     offs: &[u32],
     marks: &[u32],
     answers: &[u32],
     shares: &[u32],
-) {
+) -> io::Result<()> {
     match found {
-        Found::Refused(why) => print_refusal(why),
+        Found::Refused(why) => print_refusal(rt, why),
         Found::Done { region: _, hits } => print_found(
+            rt,
             kind,
             first(offs, hits),
             first(marks, hits),
@@ -125,7 +138,13 @@ fn print_answer(
 }
 
 // Eight slices are lent, of 4,096 words each: start words for 2,048 methods.
-fn search(file: &[u8], header: DexHeader, kind: u32, wanted: &[u32]) {
+fn search(
+    rt: &impl Print,
+    file: &[u8],
+    header: DexHeader,
+    kind: u32,
+    wanted: &[u32],
+) -> io::Result<()> {
     let mut starts = [0u32; 4096];
     let mut triples = [0u32; 4096];
     let mut slots = [0u32; 4096];
@@ -148,58 +167,55 @@ fn search(file: &[u8], header: DexHeader, kind: u32, wanted: &[u32]) {
         &mut further,
         &mut answers,
     );
-    print_answer(found, kind, &offs, &marks, &answers, &shares);
+    print_answer(rt, found, kind, &offs, &marks, &answers, &shares)
 }
 
-fn answer(file: &[u8], text: &[u8], wanted: &mut [u32]) {
+fn answer(rt: &impl Print, file: &[u8], text: &[u8], wanted: &mut [u32]) -> io::Result<()> {
     match request::read_request(text, wanted) {
-        Request::Refused(why) => print_refusal(why),
+        Request::Refused(why) => print_refusal(rt, why),
         Request::Asked {
             header,
             kind,
             count,
-        } => search(file, header, kind, first(wanted, count)),
+        } => search(rt, file, header, kind, first(wanted, count)),
     }
 }
 
 // ---- reading
 
 // A request that fills the buffer is longer than any that has no needless zeros.
-fn read_request(file: &[u8]) {
-    let mut room = io::buffer();
+fn read_request(rt: &(impl Input + Print), file: &[u8]) -> io::Result<()> {
+    let mut room = [0u8; 4096];
     let text: &mut [u8] = &mut room;
-    let n = io::read_full(STDIN_FILENO, text);
+    let n = bytes_in::read_full(&mut rt.reader(), text);
     if n == text.len() {
-        print_refusal(Refusal::BadRequest);
-        return;
+        return print_refusal(rt, Refusal::BadRequest);
     }
     let mut wanted = [0u32; 4096];
-    answer(file, first_bytes(text, n), &mut wanted);
+    answer(rt, file, first_bytes(text, n), &mut wanted)
 }
 
 // How many bytes of a file the program reads. A longer one is refused.
 const MOST_BYTES: usize = 65536;
 
 // One byte more than is allowed is read, and tells.
-fn read_file(fd: i32) {
+fn read_file<R: Files + Input + Print>(rt: &R, mut input: R::File) -> io::Result<()> {
     let mut room = [0u8; MOST_BYTES + 1];
     let file: &mut [u8] = &mut room;
-    let n = io::read_full(fd, file);
-    libc::close(fd);
+    let n = bytes_in::read_full(&mut input, file);
+    drop(input);
     if MOST_BYTES < n {
-        print_refusal(Refusal::FileTooLarge);
-        return;
+        return print_refusal(rt, Refusal::FileTooLarge);
     }
-    read_request(first_bytes(file, n));
+    read_request(rt, first_bytes(file, n))
 }
 
 // The whole program.
-pub fn run() {
-    let path = b"input.dex";
-    let fd = os::open_read(path);
-    if fd < 0 {
-        os::fail(path);
-        return;
-    }
-    read_file(fd);
+pub fn run(rt: &(impl Files + Input + Print + Eprint)) -> io::Result<()> {
+    let path = "input.dex";
+    let input = match File::open(rt, path) {
+        Ok(input) => input,
+        Err(why) => return eprintln!(rt; "{path}: {why}"),
+    };
+    read_file(rt, input)
 }

@@ -3,6 +3,8 @@
 // array at 64, 6e 10 05 00 00 00 0e 00: invoke-virtual of method 5.
 #![tactic(auto)]
 
-fn main() {
-    refs_program::run();
+use std::io;
+
+fn main(rt: HostRuntime) -> io::Result<()> {
+    refs_program::run(&rt)
 }

@@ -1,7 +1,7 @@
 // The replay list: the parts of a case read, and the line of a case written. crates/replay/README.md has the form of both.
 ghost use Rattle.std.specs.Prelude.{◌≤◌, length};
 
-use libc::STDOUT_FILENO;
+use std::io;
 
 // The parts of a case after its head. The lists of words that an operation reads are four, WORDS the first.
 pub(crate) const FILE: u8 = 1;
@@ -227,23 +227,23 @@ pub(crate) fn fit(case: &[u8]) -> bool {
 
 // ---- writing
 
-pub(crate) fn print(text: &[u8]) {
-    io::write_all(STDOUT_FILENO, text);
+pub(crate) fn print(rt: &impl Print, text: &[u8]) -> io::Result<()> {
+    rt.write_all(text)
 }
 
-pub(crate) fn print_number(n: u64) {
-    print(b" ");
-    io::print_decimal(STDOUT_FILENO, n);
+pub(crate) fn print_number(rt: &impl Print, n: u64) -> io::Result<()> {
+    print(rt, b" ")?;
+    print!(rt; "{n}")
 }
 
 // The operation and the refusal's number.
-pub(crate) fn print_head(op: u8, refusal: u32) {
-    io::print_decimal(STDOUT_FILENO, op as u64);
-    print_number(refusal as u64);
+pub(crate) fn print_head(rt: &impl Print, op: u8, refusal: u32) -> io::Result<()> {
+    print!(rt; "{op}")?;
+    print_number(rt, refusal as u64)
 }
 
-fn print_word(list: &[u32], i: usize) {
-    print_number(words::word_at(list, i) as u64);
+fn print_word(rt: &impl Print, list: &[u32], i: usize) -> io::Result<()> {
+    print_number(rt, words::word_at(list, i) as u64)
 }
 
 fn key_at(list: &[u64], i: usize) -> u64 {
@@ -277,31 +277,33 @@ fn used_keys(list: &[u64]) -> usize {
     n
 }
 
-fn print_words(list: &[u32], n: usize) {
-    print(b" |");
+fn print_words(rt: &impl Print, list: &[u32], n: usize) -> io::Result<()> {
+    print(rt, b" |")?;
     let mut i = 0;
     while i < n {
-        print_word(list, i);
+        print_word(rt, list, i)?;
         i += 1;
     }
+    Ok(())
 }
 
-fn print_first_keys(list: &[u64], n: usize) {
-    print(b" |");
+fn print_first_keys(rt: &impl Print, list: &[u64], n: usize) -> io::Result<()> {
+    print(rt, b" |")?;
     let mut i = 0;
     while i < n {
-        print_number(key_at(list, i));
+        print_number(rt, key_at(list, i))?;
         i += 1;
     }
+    Ok(())
 }
 
 // A lent output.
-fn print_output(list: &[u32]) {
-    print_words(list, used(list));
+fn print_output(rt: &impl Print, list: &[u32]) -> io::Result<()> {
+    print_words(rt, list, used(list))
 }
 
-pub(crate) fn end_line() {
-    print(b"\n");
+pub(crate) fn end_line(rt: &impl Print) -> io::Result<()> {
+    print(rt, b"\n")
 }
 
 fn byte_at(text: &[u8], i: usize) -> u8 {
@@ -309,38 +311,44 @@ fn byte_at(text: &[u8], i: usize) -> u8 {
 }
 
 // Bytes that a call hands back, as numbers, and the end of the line.
-pub(crate) fn print_bytes(text: &[u8]) {
-    print(b" |");
+pub(crate) fn print_bytes(rt: &impl Print, text: &[u8]) -> io::Result<()> {
+    print(rt, b" |")?;
     let mut i = 0;
     while i < text.len() {
-        print_number(byte_at(text, i) as u64);
+        print_number(rt, byte_at(text, i) as u64)?;
         i += 1;
     }
-    end_line();
+    end_line(rt)
 }
 
 // The lent outputs of a call, and the end of the line.
-pub(crate) fn print_keys(o: &[u64]) {
-    print_first_keys(o, used_keys(o));
-    end_line();
+pub(crate) fn print_keys(rt: &impl Print, o: &[u64]) -> io::Result<()> {
+    print_first_keys(rt, o, used_keys(o))?;
+    end_line(rt)
 }
 
-pub(crate) fn print_one(o1: &[u32]) {
-    print_output(o1);
-    end_line();
+pub(crate) fn print_one(rt: &impl Print, o1: &[u32]) -> io::Result<()> {
+    print_output(rt, o1)?;
+    end_line(rt)
 }
 
-pub(crate) fn print_two(o1: &[u32], o2: &[u32]) {
-    print_output(o1);
-    print_one(o2);
+pub(crate) fn print_two(rt: &impl Print, o1: &[u32], o2: &[u32]) -> io::Result<()> {
+    print_output(rt, o1)?;
+    print_one(rt, o2)
 }
 
-pub(crate) fn print_three(o1: &[u32], o2: &[u32], o3: &[u32]) {
-    print_output(o1);
-    print_two(o2, o3);
+pub(crate) fn print_three(rt: &impl Print, o1: &[u32], o2: &[u32], o3: &[u32]) -> io::Result<()> {
+    print_output(rt, o1)?;
+    print_two(rt, o2, o3)
 }
 
-pub(crate) fn print_four(o1: &[u32], o2: &[u32], o3: &[u32], o4: &[u32]) {
-    print_output(o1);
-    print_three(o2, o3, o4);
+pub(crate) fn print_four(
+    rt: &impl Print,
+    o1: &[u32],
+    o2: &[u32],
+    o3: &[u32],
+    o4: &[u32],
+) -> io::Result<()> {
+    print_output(rt, o1)?;
+    print_three(rt, o2, o3, o4)
 }

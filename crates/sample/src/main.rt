@@ -6,24 +6,26 @@ mod group_sections;
 mod search_sections;
 mod text;
 
-fn sections(file: &[u8]) {
+use std::fs::File;
+use std::io;
+
+fn sections(rt: &impl Print, file: &[u8]) -> io::Result<()> {
     let header = text::header(file);
-    group_sections::types(file, header);
-    group_sections::methods(file, header);
-    search_sections::strings(file, header);
-    search_sections::group_searches(file, header);
-    code_section::code(file, header);
+    group_sections::types(rt, file, header)?;
+    group_sections::methods(rt, file, header)?;
+    search_sections::strings(rt, file, header)?;
+    search_sections::group_searches(rt, file, header)?;
+    code_section::code(rt, file, header)
 }
 
-fn main() {
-    let path = b"sample.dex";
-    let fd = os::open_read(path);
-    if fd < 0 {
-        os::fail(path);
-        return;
-    }
-    let mut file = io::buffer();
-    let n = io::read_full(fd, &mut file);
-    libc::close(fd);
-    sections(&file[..n]);
+fn main(rt: HostRuntime) -> io::Result<()> {
+    let path = "sample.dex";
+    let mut input = match File::open(&rt, path) {
+        Ok(input) => input,
+        Err(why) => return eprintln!(rt; "{path}: {why}"),
+    };
+    let mut file = [0u8; 4096];
+    let n = bytes_in::read_full(&mut input, &mut file);
+    drop(input);
+    sections(&rt, &file[..n])
 }

@@ -2,72 +2,83 @@
 ghost use Rattle.std.specs.Prelude.{◌≡◌, set};
 ghost use Rattle.sample.specs.Steps.{counted_up};
 
-use libc::STDOUT_FILENO;
 use refusal::{Answer, Refusal};
+use std::io;
 use tinydex::{DexHeader, Table};
 
 // ---- writing
 
-pub(crate) fn print(text: &[u8]) {
-    io::write_all(STDOUT_FILENO, text);
+pub(crate) fn print(rt: &impl Print, text: &[u8]) -> io::Result<()> {
+    rt.write_all(text)
 }
 
-fn print_number(label: &[u8], n: u64) {
-    print(label);
-    io::print_decimal(STDOUT_FILENO, n);
+fn print_number(rt: &impl Print, label: &[u8], n: u64) -> io::Result<()> {
+    print(rt, label)?;
+    print!(rt; "{n}")
 }
 
-pub(crate) fn print_word(label: &[u8], n: u32) {
-    print_number(label, n as u64);
+pub(crate) fn print_word(rt: &impl Print, label: &[u8], n: u32) -> io::Result<()> {
+    print_number(rt, label, n as u64)
 }
 
-pub(crate) fn print_count(label: &[u8], n: usize) {
-    print_number(label, n as u64);
+pub(crate) fn print_count(rt: &impl Print, label: &[u8], n: usize) -> io::Result<()> {
+    print_number(rt, label, n as u64)
 }
 
-pub(crate) fn print_refusal(why: Refusal) {
-    print_word(b"refusal=", refusal::number(why));
-    print(b"\n");
+pub(crate) fn print_refusal(rt: &impl Print, why: Refusal) -> io::Result<()> {
+    print_word(rt, b"refusal=", refusal::number(why))?;
+    print(rt, b"\n")
 }
 
 // An entry of a list, with a comma before every one but the first.
-fn print_entry(list: &[u32], i: usize) {
+fn print_entry(rt: &impl Print, list: &[u32], i: usize) -> io::Result<()> {
     if 0 < i {
-        print(b",");
+        print(rt, b",")?;
     }
-    print_word(b"", words::word_at(list, i));
+    print_word(rt, b"", words::word_at(list, i))
 }
 
 // A whole list, and the end of the line.
-fn print_list(list: &[u32]) {
+fn print_list(rt: &impl Print, list: &[u32]) -> io::Result<()> {
     let mut i = 0;
     while i < list.len() {
-        print_entry(list, i);
+        print_entry(rt, list, i)?;
         i += 1;
     }
-    print(b"\n");
+    print(rt, b"\n")
 }
 
 // A line for a group that is not empty.
-pub(crate) fn print_group(key: &[u8], k: u32, ids: &[u8], group: &[u32]) {
+pub(crate) fn print_group(
+    rt: &impl Print,
+    key: &[u8],
+    k: u32,
+    ids: &[u8],
+    group: &[u32],
+) -> io::Result<()> {
     if group.len() == 0 {
-        return;
+        return Ok(());
     }
-    print_word(key, k);
-    print(ids);
-    print_list(group);
+    print_word(rt, key, k)?;
+    print(rt, ids)?;
+    print_list(rt, group)
 }
 
 // What a search has found, and the end of the line.
-pub(crate) fn print_answer(ids: &[u8], answer: Answer, out: &[u32]) {
+pub(crate) fn print_answer(
+    rt: &impl Print,
+    ids: &[u8],
+    answer: Answer,
+    out: &[u32],
+) -> io::Result<()> {
     match answer {
         Answer::Refused(why) => {
-            print(b" ");
-            print_refusal(why);
+            print(rt, b" ")?;
+            print_refusal(rt, why)
         }
         Answer::Done(n) => {
-            print(ids);
-            print_list(first(out, n));
+            print(rt, ids)?;
+            print_list(rt, first(out, n))
         }
     }
 }
