@@ -11,9 +11,9 @@ use lib.Seq.{sets, sets-eq}
 use borrow.Author.Tests.{le-leb, lt-leb}
 use Rattle.words.specs.Padded.{zeros, padded}
 use Rattle.words.proofs.Padded.{padded_none, padded_front}
-use Rattle.start_words.specs.Starts.{pairs_in, pair_count, no_starts}
+use Rattle.start_words.specs.Starts.{with_array, pairs_in, pair_count, no_starts}
 use Rattle.start_words.proofs.Starts.{length_with, with_padded, count_none, none_padded}
-use Rattle.dalvik.specs.CodeItem.{Code}
+use Rattle.dalvik.specs.CodeItem.{Code, start, stop}
 use Rattle.refusal.specs.Refusals.{is_too_large}
 use Rattle.refusal.specs.declared.Refusal.{Refusal}
 use Rattle.refusal.specs.declared.Refusal.TheVariants.{FileTooLarge, LentTooShort}
@@ -44,7 +44,7 @@ starts_padded s m n ws [] e a = refl
 starts_padded s m n ws (c ∷ cs) e a =
     let q : c.method < pair_count ws = omega (arith, a.0.index) in
     ap (λ (l : List ℕ). starts_from l cs) (with_padded ws c.method _ _ n q)
-    ∙ starts_padded s m n _ cs (ap pairs_in (length_with ws c.method _ _) ∙ e) a.1
+    ∙ starts_padded s m n (with_array ws c.method (start c) (stop c)) cs (ap pairs_in (length_with ws c.method _ _) ∙ e) a.1
 
 starts_zeros : (s : List ℕ) (m n : ℕ) (cs : List Code) → m ≤ pairs_in n → Each (CodeIn s m) cs → starts_from (zeros n) cs ≡ padded n (starts_of m cs)
 unfolding starts_of
@@ -136,11 +136,3 @@ module _ (m : ℕ) (v : Walk) (before after : CodeWords) where
 -- words cleared again, as long as they came
 pub cleared_again : {before mid after : CodeWords} → Cleared mid after → SameLengths before mid → Cleared before after
 cleared_again z l = record { triples = z.triples ∙ ap zeros l.triples; starts = z.starts ∙ ap zeros l.starts }
-
--- the triples that fit, by the slice's length before the walk
-module _ {a b m : ℕ} (n : ℕ) (e : a ≡ b) (f : b ≡ m) where
-  pub third_over : a / 3 < n → m / 3 < n
-  third_over q = omega arith
-
-  pub third_holds : n ≤ a / 3 → n ≤ m / 3
-  third_holds q = omega arith

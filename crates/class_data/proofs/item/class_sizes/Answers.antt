@@ -8,13 +8,13 @@ use Rattle.class_data.proofs.item.class_sizes.Goals as goal
 
 pub overflow_add-p : goal.overflow_add-p
 overflow_add-p c =
-    omega (arith, fast_in _ _ _ _ (met c.statics.given.1 c.read_uleb128_fast.ensures.gives))
+    omega (arith, fast_in _ _ _ _ (met c.in-Number.is c.read_uleb128_fast.ensures.gives))
 
 pub overflow_add-fields : goal.overflow_add-fields
 overflow_add-fields c =
     omega (
       arith,
-      fast_in _ _ _ _ (met c.statics.given.1 c.read_uleb128_fast.ensures.gives),
+      fast_in _ _ _ _ (met c.in-Number.is c.read_uleb128_fast.ensures.gives),
       fast_in _ _ _ _ (met c.in-Number-read_uleb128_fast.is c.read_uleb128_fast-in-Number.ensures.gives),
     )
 
@@ -29,19 +29,19 @@ returns-in-Refused c =
 pub returns-in-Refused-read_uleb128_fast : goal.returns-in-Refused-read_uleb128_fast
 returns-in-Refused-read_uleb128_fast c =
     sizes_no1 _ _
-    (two-no2 _ _ (met c.statics.given.1 c.read_uleb128_fast.ensures.gives)
+    (two-no2 _ _ (met c.in-Number.is c.read_uleb128_fast.ensures.gives)
     (met c.in-Refused-read_uleb128_fast.is c.read_uleb128_fast-in-Number.ensures.gives))
 
 pub returns-in-Refused-read_two : goal.returns-in-Refused-read_two
 returns-in-Refused-read_two c =
     sizes-no2 _ _
-    (two_read _ _ (met c.statics.given.1 c.read_uleb128_fast.ensures.gives)
+    (two_read _ _ (met c.in-Number.is c.read_uleb128_fast.ensures.gives)
     (met c.in-Number-read_uleb128_fast.is c.read_uleb128_fast-in-Number.ensures.gives))
     (met c.in-Refused-read_two.is c.read_two.ensures)
 
 pub returns-in-At : goal.returns-in-At
 returns-in-At c =
     sizes-at _ _
-    (two_read _ _ (met c.statics.given.1 c.read_uleb128_fast.ensures.gives)
+    (two_read _ _ (met c.in-Number.is c.read_uleb128_fast.ensures.gives)
     (met c.in-Number-read_uleb128_fast.is c.read_uleb128_fast-in-Number.ensures.gives))
     (met c.in-At.is c.read_two.ensures)

@@ -15,7 +15,7 @@ pub loop-left-preserved : goal.loop-left-preserved
 loop-left-preserved c =
     going_again c.loop-left.invariant c.requires c.loop-left-test.true
     (step_told _ _ _ _ _ _ c.encoded_method.ensures c.in-On.is)
-    (record { triples = c.triples-1.given; starts = c.starts-1.given })
+    (record { triples = omega arith; starts = omega arith })
 
 pub returns-in-Refused : goal.returns-in-Refused
 returns-in-Refused c =
