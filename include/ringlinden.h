@@ -1,6 +1,6 @@
 /*
- * Ringlinden, as C and C++ call it: `rt staticlib ringlinden` writes target/staticlib/libringlinden.a. Nothing else is needed to link
- * but memset.
+ * Ringlinden, as C and C++ call it: `tools/staticlib` writes target/staticlib/libringlinden.a, for Linux on x86-64 (from x86-64-v2 on).
+ * Nothing else is needed to link but memset.
  *
  *     cc -std=c99 -I include tools/c/lookup.c target/staticlib/libringlinden.a
  *

@@ -1,5 +1,5 @@
-// The C interface (include/ringlinden.h): each operation under a plain name, over lent slices. A function returns the refusal's
-// number, 0 for success; counts and places go through pointers, and are 0 on a refusal.
+// The operations as C calls them (include/ringlinden.h): each under a plain name, over lent slices. A function returns the refusal's
+// number, 0 for success; counts and places go through pointers, and are 0 on a refusal. The crate `ringlinden_c` exports them.
 #![tactic(auto)]
 
 ghost use Rattle.std.specs.Prelude.{◌≡◌, [], ◌∷◌, ◌++◌, length};
@@ -43,8 +43,7 @@ ghost use Rattle.c_answers.specs.Group.{GroupAt};
 // ---- groups
 
 // The type ids grouped by the string of their descriptor.
-#[unsafe(no_mangle)]
-pub extern "C" fn ringlinden_type_groups(
+pub fn ringlinden_type_groups(
     file: &[u8],
     header: &[u32; 13],
     str_offsets: &mut [u32],
@@ -66,8 +65,7 @@ pub extern "C" fn ringlinden_type_groups(
 }
 
 // The method ids grouped by class and by name.
-#[unsafe(no_mangle)]
-pub extern "C" fn ringlinden_method_groups(
+pub fn ringlinden_method_groups(
     file: &[u8],
     header: &[u32; 13],
     clz_offsets: &mut [u32],
@@ -97,8 +95,7 @@ pub extern "C" fn ringlinden_method_groups(
 }
 
 // The group of a key: `count` ids from `start` on, none where the key or its offsets don't fit. No call is refused.
-#[unsafe(no_mangle)]
-pub extern "C" fn ringlinden_group(
+pub fn ringlinden_group(
     offsets: &[u32],
     ids: &[u32],
     key: u32,
@@ -117,8 +114,7 @@ pub extern "C" fn ringlinden_group(
 // ---- strings
 
 // The string map: the sorted keys and the text area.
-#[unsafe(no_mangle)]
-pub extern "C" fn ringlinden_string_map(
+pub fn ringlinden_string_map(
     file: &[u8],
     header: &[u32; 13],
     keys: &mut [u64],
@@ -135,8 +131,7 @@ pub extern "C" fn ringlinden_string_map(
 }
 
 // The bytes of the string whose data stand at an offset: `count` bytes of the file from `start` on.
-#[unsafe(no_mangle)]
-pub extern "C" fn ringlinden_string_bytes(
+pub fn ringlinden_string_bytes(
     file: &[u8],
     offset: usize,
     start: &mut usize,
@@ -150,8 +145,7 @@ pub extern "C" fn ringlinden_string_bytes(
 }
 
 // The strings that own a find of the query.
-#[unsafe(no_mangle)]
-pub extern "C" fn ringlinden_string_search(
+pub fn ringlinden_string_search(
     file: &[u8],
     keys: &[u64],
     start: usize,
@@ -170,8 +164,7 @@ pub extern "C" fn ringlinden_string_search(
 }
 
 // The types whose string owns a find of the query.
-#[unsafe(no_mangle)]
-pub extern "C" fn ringlinden_type_search(
+pub fn ringlinden_type_search(
     file: &[u8],
     keys: &[u64],
     start: usize,
@@ -204,8 +197,7 @@ pub extern "C" fn ringlinden_type_search(
 }
 
 // The methods whose class and name fit the queries.
-#[unsafe(no_mangle)]
-pub extern "C" fn ringlinden_method_search(
+pub fn ringlinden_method_search(
     file: &[u8],
     header: &[u32; 13],
     keys: &[u64],
@@ -245,8 +237,7 @@ pub extern "C" fn ringlinden_method_search(
 }
 
 // The given string indices whose string contains the query.
-#[unsafe(no_mangle)]
-pub extern "C" fn ringlinden_name_filter(
+pub fn ringlinden_name_filter(
     file: &[u8],
     given: &[u32],
     query: &[u8],
@@ -265,8 +256,7 @@ pub extern "C" fn ringlinden_name_filter(
 // ---- code
 
 // The code table: start words, triples, slots and shares, and the region of the code.
-#[unsafe(no_mangle)]
-pub extern "C" fn ringlinden_code_table(
+pub fn ringlinden_code_table(
     file: &[u8],
     header: &[u32; 13],
     starts: &mut [u32],
@@ -309,8 +299,7 @@ pub extern "C" fn ringlinden_code_table(
 }
 
 // The places of a region that look like an instruction with a wanted index, and the index at each.
-#[unsafe(no_mangle)]
-pub extern "C" fn ringlinden_scan(
+pub fn ringlinden_scan(
     file: &[u8],
     start: u32,
     end: u32,
@@ -330,8 +319,7 @@ pub extern "C" fn ringlinden_scan(
 }
 
 // The slot word of each entry that a walk of the code confirms, else 0.
-#[unsafe(no_mangle)]
-pub extern "C" fn ringlinden_locate(
+pub fn ringlinden_locate(
     file: &[u8],
     base: u32,
     slots: &[u32],
@@ -358,8 +346,7 @@ pub extern "C" fn ringlinden_locate(
 }
 
 // The methods of a slot word.
-#[unsafe(no_mangle)]
-pub extern "C" fn ringlinden_list_slot(
+pub fn ringlinden_list_slot(
     shares: &[u32],
     slot: u32,
     methods: &mut [u32],
@@ -374,8 +361,7 @@ pub extern "C" fn ringlinden_list_slot(
 }
 
 // Build, scan and locate in one, with demand 3 as `findrefs::find` has it, each entry by itself, and never 12 or 15.
-#[unsafe(no_mangle)]
-pub extern "C" fn ringlinden_find(
+pub fn ringlinden_find(
     file: &[u8],
     header: &[u32; 13],
     kind: u32,
