@@ -1,0 +1,12 @@
+-- The test of both lengths decides: hits that fit stay, else both slices are cleared.
+-- Assumes nothing.
+use mathlib.Core.Logic.{⊎_elim, inl, inr}
+use Rattle.code_item_scan.proofs.Whole.{settle_kept, settle_cleared}
+use Rattle.code_item_scan.proofs.refusals.settle.Goals as goal
+
+pub returns-then-n-marks : goal.returns-then-n-marks
+returns-then-n-marks c = settle_kept _ _ c.if-n-offs.true c.if-n-marks.true
+
+pub returns : goal.returns
+returns c =
+    settle_cleared _ _ _ (⊎_elim (λ w. inr w.1.left) (λ w. inl w.left) c.if-n-offs.branch) c.clear_both.ensures

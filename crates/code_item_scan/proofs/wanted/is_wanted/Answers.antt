@@ -1,0 +1,15 @@
+-- The bits tell of an index that has one, and past them the words, where they have others.
+-- Assumes nothing.
+use mathlib.Core.Path.{◌∙◌}
+use Rattle.code_item_scan.proofs.Sets.{listed_bit, listed_word, listed_none}
+use native.Mathlib.Omega.{arith}
+use Rattle.code_item_scan.proofs.wanted.is_wanted.Goals as goal
+
+pub returns-then-x-bits : goal.returns-then-x-bits
+returns-then-x-bits c = c.holds.ensures ∙ listed_bit _ _ (omega (arith, c.if-x-bits.true))
+
+pub returns-then-others : goal.returns-then-others
+returns-then-others c = c.is_listed.ensures ∙ listed_word _ _ (omega (arith, c.if-x-bits.false)) c.if-others.true
+
+pub returns : goal.returns
+returns c = listed_none _ _ (omega (arith, c.if-x-bits.false)) c.if-others.false
