@@ -8,6 +8,7 @@ use mathlib.Core.Logic.{⊎_elim}
 use Rattle.dalvik.specs.Numbers.{byte}
 use Rattle.code_item_scan.proofs.Starts.{named_other, named_short, named_wanted, named_unwanted, index_four, index_two}
 use Rattle.kinds.proofs.Widths.{width_small}
+use Rattle.code_item_scan.proofs.hits.string_hit.Goals.{then-w-eq4, else-w-eq4}
 use Rattle.code_item_scan.proofs.hits.string_hit.Goals as goal
 
 pub returns-then-w-eq0 : goal.returns-then-w-eq0
@@ -29,8 +30,10 @@ returns-then-is_wanted c =
     let a = c.args in
     let v = c.string_width-w in
     named_wanted a.s.now strings _ a.end a.at v.result c.if-w-eq4.x v.ensures (omega arith) (omega arith)
-    (⊎_elim (λ w. w.2 ∙ w.1.ensures ∙ index_four a.s.now (a.at + 2) v.result w.0.taken)
-    (λ w. w.2 ∙ w.1.ensures.is ∙ index_two a.s.now (a.at + 2) v.result w.0.left) c.if-w-eq4.branch)
+    (elim c.if-w-eq4.branch [
+      | then-w-eq4 w ↦ w.x-is ∙ w.u32_inside-x.ensures ∙ index_four a.s.now (a.at + 2) v.result w.if-w-eq4.true
+      | else-w-eq4 w ↦ w.x-is ∙ w.u16_inside-x.ensures.is ∙ index_two a.s.now (a.at + 2) v.result w.if-w-eq4.false
+    ])
     (sym c.is_wanted.ensures ∙ c.if-is_wanted.true)
 
 pub returns : goal.returns
@@ -38,6 +41,8 @@ returns c =
     let a = c.args in
     let v = c.string_width-w in
     named_unwanted a.s.now strings _ a.end a.at v.result c.if-w-eq4.x v.ensures
-    (⊎_elim (λ w. w.2 ∙ w.1.ensures ∙ index_four a.s.now (a.at + 2) v.result w.0.taken)
-    (λ w. w.2 ∙ w.1.ensures.is ∙ index_two a.s.now (a.at + 2) v.result w.0.left) c.if-w-eq4.branch)
+    (elim c.if-w-eq4.branch [
+      | then-w-eq4 w ↦ w.x-is ∙ w.u32_inside-x.ensures ∙ index_four a.s.now (a.at + 2) v.result w.if-w-eq4.true
+      | else-w-eq4 w ↦ w.x-is ∙ w.u16_inside-x.ensures.is ∙ index_two a.s.now (a.at + 2) v.result w.if-w-eq4.false
+    ])
     (sym c.is_wanted.ensures ∙ c.if-is_wanted.false)

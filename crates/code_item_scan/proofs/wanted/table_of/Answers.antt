@@ -11,6 +11,7 @@ use Rattle.code_item_scan.specs.Steps.{bit}
 use Rattle.code_item_scan.proofs.Sets.{table_marked, table_passed}
 use borrow.Author.Rules.{rules}
 use native.Mathlib.Omega.{arith}
+use Rattle.code_item_scan.proofs.wanted.table_of.Goals.{then-x-lt-INDICES, else-x-lt-INDICES}
 use Rattle.code_item_scan.proofs.wanted.table_of.Goals as goal
 
 pub loop-i-init : goal.loop-i-init
@@ -28,18 +29,18 @@ loop-i-preserved c =
     let l = c.args.wanted.now in
     let k = c.loop-i in
     let h = c.loop-i-test.true in
-    ⊎_elim
-    (λ w. (
-      ap length w.1 ∙ simp length-set k.invariant.0,
+    elim c.if-x-lt-INDICES.branch [
+    | then-x-lt-INDICES w ↦ (
+      ap length w.table-is ∙ simp length-set k.invariant.0,
       omega arith,
-      λ y z. ap (λ (r : List ℕ). get_or r y 0) w.1 ∙ table_marked l k.table k.i h k.invariant.2 k.invariant.0 y z,
-    ))
-    (λ w. (
-      ap length w.1 ∙ k.invariant.0,
+      λ y z. ap (λ (r : List ℕ). get_or r y 0) w.table-is ∙ table_marked l k.table k.i h k.invariant.2 k.invariant.0 y z,
+    )
+    | else-x-lt-INDICES w ↦ (
+      ap length w.table-is ∙ k.invariant.0,
       omega arith,
-      λ y z. ap (λ (r : List ℕ). get_or r y 0) w.1 ∙ table_passed l k.table k.i h k.invariant.2 w.0.left y z,
-    ))
-    c.if-x-lt-INDICES.branch
+      λ y z. ap (λ (r : List ℕ). get_or r y 0) w.table-is ∙ table_passed l k.table k.i h k.invariant.2 w.if-x-lt-INDICES.false y z,
+    )
+    ]
 
 pub returns : goal.returns
 returns c = record {

@@ -1,11 +1,13 @@
 use Prim.Native.Nat.{ℕ, ◌-◌}
-use mathlib.Core.Path.{refl, sym, subst, ◌∙◌}
+use mathlib.Core.Bool.{not}
+use mathlib.Core.Path.{ap, refl, sym, subst, ◌∙◌}
 use mathlib.Core.Logic.{⊎_elim}
 use mathlib.Core.List.{List}
 use lib.Seq.{take_all}
 use Rattle.code_item_scan.specs.Steps.{WantedOf}
 use Rattle.code_item_scan.proofs.Sets.{wanted_none, wanted_in, wanted_out}
 use native.Mathlib.Omega.{arith}
+use Rattle.code_item_scan.proofs.wanted.wanted_of.Goals.{then-not-add, else-not-add}
 use Rattle.code_item_scan.proofs.wanted.wanted_of.Goals as goal
 
 pub loop-i-init : goal.loop-i-init
@@ -17,8 +19,10 @@ loop-i-preserved c =
     let k = c.loop-i in
     let h = c.loop-i-test.true in
     let d = c.add.ensures in (
-      ⊎_elim (λ w. subst (WantedOf _ _) (sym w.1) (wanted_out a.wanted.now k.i h k.invariant.0 d w.0.taken))
-          (λ w. subst (WantedOf _ _) (sym w.1) (wanted_in a.wanted.now k.i h k.invariant.0 d w.0.left)) c.if-not-add.branch,
+      elim c.if-not-add.branch [
+        | then-not-add w ↦ subst (WantedOf _ _) (sym w.others-is) (wanted_out a.wanted.now k.i h k.invariant.0 d (ap not w.if-not-add.true))
+        | else-not-add w ↦ subst (WantedOf _ _) (sym w.others-is) (wanted_in a.wanted.now k.i h k.invariant.0 d (ap not w.if-not-add.false))
+      ],
       omega arith,
       d.long ∙ k.invariant.2,
     )
