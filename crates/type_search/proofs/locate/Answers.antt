@@ -1,0 +1,84 @@
+-- A law for each way out; what was found of the strings stands at the front of their words, and is cleared once the types are collected.
+-- Assumes nothing.
+use Rattle.type_search.proofs.Exits.{held_fit, exit_fault, exit-empty, exit-strings, exit-types, exit-done}
+use Rattle.type_search.proofs.Types.{asked_fault}
+use Rattle.word_set.specs.Found.{fault_number}
+use Rattle.word_set.proofs.Found.{zeros_again}
+use Rattle.groups.specs.Built.{group_words}
+use Rattle.string_search.specs.Search.{area}
+use lib.Seq.{length-take-le}
+use lib.ListN.{length}
+use mathlib.Core.Path.{ap, sym, ◌∙◌}
+use native.Mathlib.Omega.{arith}
+use Rattle.type_search.proofs.locate.Goals as goal
+
+pub returns-in-Refused : goal.returns-in-Refused
+returns-in-Refused c = record {
+  gives = let a = c.args in
+      let zs = c.clear.ensures in
+      let zo = c.clear-2.ensures in
+      exit_fault (area a.file.now a.keys.now a.start a.end) a.query.now (group_words a.str_offsets.now a.type_idxs.now)
+      a.strings.now a.out.now _ _ zs zo c.in-Refused.why
+      (sym (ap fault_number c.in-Refused.is) ∙ c.search_fault-fault.ensures);
+}
+
+pub returns-then-query-eq0 : goal.returns-then-query-eq0
+returns-then-query-eq0 c = record {
+  gives = let a = c.args in
+      let zs = c.clear.ensures in
+      let zo = c.clear-2.ensures in
+      exit-empty (area a.file.now a.keys.now a.start a.end) a.query.now (group_words a.str_offsets.now a.type_idxs.now)
+      a.strings.now a.out.now _ _ zs zo
+      (sym (ap fault_number c.in_default.is) ∙ c.search_fault-fault.ensures) c.if-query-eq0.true;
+}
+
+pub returns-in_default-locate : goal.returns-in_default-locate
+returns-in_default-locate c = record {
+  gives = let a = c.args in
+      let zs = c.clear.ensures in
+      let zo = c.clear-2.ensures in
+      exit-strings (area a.file.now a.keys.now a.start a.end) a.query.now (group_words a.str_offsets.now a.type_idxs.now)
+      a.strings.now a.out.now _ _ zs zo (sym (ap fault_number c.in_default.is) ∙ c.search_fault-fault.ensures)
+      c.locate.ensures.gives
+      (asked_fault _ _ _ c.if-query-eq0.false (sym (ap fault_number c.in_default.is) ∙ c.search_fault-fault.ensures))
+      c.in_default-locate.field-0 c.in_default-locate.is;
+}
+
+pub slice_bounds-collect-end : goal.slice_bounds-collect-end
+slice_bounds-collect-end c =
+    held_fit c.locate.ensures.gives _ c.in-Done.is
+
+pub slice_bounds-collect-end-2 : goal.slice_bounds-collect-end-2
+slice_bounds-collect-end-2 c =
+    sym (length-take-le _ _ (held_fit c.locate.ensures.gives _ c.in-Done.is))
+
+pub collect-found-requires : goal.collect-found-requires
+collect-found-requires c =
+    zeros_again (length c.args.out.now) _ c.clear-2.ensures
+
+pub shape_of-strings-in_default-found : goal.shape_of-strings-in_default-found
+shape_of-strings-in_default-found c =
+    omega (arith, c.fill.auto, c.locate.auto, c.clear.auto)
+
+pub returns-in_default-found : goal.returns-in_default-found
+returns-in_default-found c = record {
+  gives = let a = c.args in
+      let zs = c.clear.ensures in
+      let zo = c.clear-2.ensures in
+      exit-types (area a.file.now a.keys.now a.start a.end) a.query.now (group_words a.str_offsets.now a.type_idxs.now)
+      a.strings.now a.out.now _ _ zs zo (sym (ap fault_number c.in_default.is) ∙ c.search_fault-fault.ensures)
+      c.locate.ensures.gives _ c.in-Done.is _ c.fill.ensures (omega (arith, c.locate.auto))
+      c.collect-found.ensures _ c.in_default-found.is (omega (arith, c.collect-found.auto))
+      c.clear-in_default-found.ensures;
+}
+
+pub returns : goal.returns
+returns c = record {
+  gives = let a = c.args in
+      let zs = c.clear.ensures in
+      let zo = c.clear-2.ensures in
+      exit-done (area a.file.now a.keys.now a.start a.end) a.query.now (group_words a.str_offsets.now a.type_idxs.now)
+      a.strings.now a.out.now _ _ zs zo (sym (ap fault_number c.in_default.is) ∙ c.search_fault-fault.ensures)
+      c.locate.ensures.gives _ c.in-Done.is _ c.fill.ensures (omega (arith, c.locate.auto))
+      c.collect-found.ensures _ c.in-Held.is;
+}
