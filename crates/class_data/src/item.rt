@@ -11,7 +11,7 @@ use structs::Read32;
 // The count of field pairs is taken modulo this, and index sums are below it (`word` of specs/Walk.antt).
 const WORD: u64 = 4294967296;
 
-// Indices of methods with code are below this (`mostMethods` of specs/Walk.antt).
+// Indices of methods with code are below this (`most_methods` of specs/Walk.antt).
 const MOST_METHODS: u32 = 16777216;
 
 // An offset, where there is one.

@@ -78,7 +78,7 @@ fn greatest(triples: &[u32], n: usize) -> u32
     r
 }
 
-// Three words for each share's number of 31 bits (`mostShares` of specs/Build.antt).
+// Three words for each share's number of 31 bits (`most_shares` of specs/Build.antt).
 const MOST_SHARES: usize = 6442450944;
 
 // How many of n lent words of shares can be used.
