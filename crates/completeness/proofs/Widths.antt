@@ -62,6 +62,7 @@ in_types (this f t) = const_class (omega arith)
 in_types (other (this f t)) = check_cast (omega arith)
 in_types (other (other (this f t))) = instance_of (omega arith)
 in_types (other (other (other (this f t)))) = new_or_filled f t
+in_types {op = op} (other (other (other (other x)))) = elim x [ ]
 
 fields_in : {op : ℕ} → FieldOpcode op → Within op field_opcodes
 fields_in (iinstanceop f t) = this {r = up_to 0x52 0x6d} (omega arith) (omega arith)
@@ -69,6 +70,7 @@ fields_in (sstaticop f t) = this {r = up_to 0x52 0x6d} (omega arith) (omega arit
 
 in_fields : {op : ℕ} → Within op field_opcodes → FieldOpcode op
 in_fields {op} (this f t) = ⊎_elim (λ (h : op < 0x60). iinstanceop f (omega arith)) (λ (h : 0x60 ≤ op). sstaticop h t) (lt_or_le op 0x60)
+in_fields {op = op} (other x) = elim x [ ]
 
 methods_in : {op : ℕ} → MethodOpcode op → Within op method_opcodes
 methods_in (invoke f t) = this f t
@@ -84,6 +86,7 @@ in_methods (this f t) = invoke f t
 in_methods (other (this f t)) = invoke_range f t
 in_methods (other (other (this f t))) = invoke_polymorphic (omega arith) (omega arith)
 in_methods (other (other (other (this f t)))) = invoke_polymorphic (omega arith) (omega arith)
+in_methods {op = op} (other (other (other (other x)))) = elim x [ ]
 
 -- ---- the index
 -- it ends by the instruction's end: one computed test over all opcodes

@@ -1,0 +1,9 @@
+-- `ringlinden::ringlinden_method_groups` meets its contract: the numbers are those of the operation's answer, and the
+-- header record is that of the words lent. Assumes nothing.
+use Rattle.ringlinden.proofs.ringlinden_method_groups.Goals as goal
+
+pub returns : goal.returns
+returns c = record {
+  gives = record
+      { answer = _; handed = c.tell_method_groups.ensures; right = rw c.header_of.ensures at c.build_map-answer.ensures.gives };
+}

@@ -1,0 +1,6 @@
+-- `ringlinden::ringlinden_string_map` meets its contract: the numbers are those of the operation's answer, and the
+-- header record is that of the words lent. Assumes nothing.
+use Rattle.ringlinden.proofs.ringlinden_string_map.Goals as goal
+
+pub returns : goal.returns
+returns c = record { gives = record { answer = _; handed = c.tell_string_map.ensures; right = rw c.header_of.ensures at c.build_map-answer.ensures } }
