@@ -23,7 +23,7 @@ use Rattle.groups.proofs.Join.{first_next, first_here, zero_first, kept_all, par
 use Rattle.groups.proofs.Found.{found_part}
 use Rattle.method_locator.specs.declared.Built.{Built}
 use Rattle.method_locator.specs.declared.Built.TheVariants.{Done, Refused}
-use Rattle.method_locator.specs.Built.{MethodWords, Outcome, joint, outcome, clz_outcome, name_outcome, Gives, built_number}
+use Rattle.method_locator.specs.Built.{MethodWords, joint, outcome, clz_outcome, name_outcome, Gives, built_number}
 
 module _ (c f : one.Outcome) {before after : MethodWords} where
   pub both_done : {ra rb : Answer} (x y : ℕ) → ra ≡ answer.Done x → rb ≡ answer.Done y → one.Gives c ra before.clz after.clz

@@ -1,5 +1,4 @@
 use Rattle.byte_search.proofs.Firsts.{none_tested, one_tested}
-use Prim.Native.Nat.{◌-◌}
 use mathlib.Core.Path.{◌≡◌}
 use native.Mathlib.Omega.{arith}
 use Rattle.byte_search.proofs.either_in_block.Goals as goal

@@ -1,5 +1,4 @@
 use Rattle.byte_search.proofs.Firsts.{no_lane, one_lane, all_lanes}
-use Prim.Native.Nat.{◌-◌}
 use native.Mathlib.Omega.{arith}
 use Rattle.byte_search.proofs.first_both.Goals as goal
 

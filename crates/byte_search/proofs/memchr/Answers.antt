@@ -1,7 +1,6 @@
 use Rattle.byte_search.proofs.Firsts.{first_none, none_yet, part_first, part_passed}
 use mathlib.Core.Logic.{inl, inr}
 use mathlib.Core.Path.{refl}
-use Prim.Native.Nat.{◌-◌}
 use native.Mathlib.Omega.{arith}
 use Rattle.byte_search.proofs.memchr.Goals as goal
 

@@ -1,5 +1,4 @@
 use Rattle.byte_search.proofs.Firsts.{none_yet, pass_one, passed_first, lane_is, lane_not}
-use Prim.Native.Nat.{◌-◌}
 use native.Mathlib.Omega.{arith}
 use Rattle.byte_search.proofs.plain_either.Goals as goal
 

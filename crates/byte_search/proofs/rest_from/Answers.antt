@@ -1,6 +1,6 @@
 use Rattle.byte_search.specs.First.{First}
 use Rattle.byte_search.proofs.Firsts.{no_lane, one_lane, all_lanes, lane_left}
-use Prim.Native.Nat.{◌-◌, ◌≤◌}
+use Prim.Native.Nat.{◌≤◌}
 use mathlib.Core.Path.{subst}
 use mathlib.Core.Logic.{⊎_elim}
 use native.Mathlib.Omega.{arith}

@@ -1,6 +1,5 @@
 use Rattle.byte_search.proofs.Firsts.{none_yet, pass_more}
 use mathlib.Core.Logic.{inl, inr}
-use Prim.Native.Nat.{◌-◌}
 use native.Mathlib.Omega.{arith}
 use Rattle.byte_search.proofs.skip_both.Goals as goal
 

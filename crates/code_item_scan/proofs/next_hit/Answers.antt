@@ -2,7 +2,6 @@
 -- Assumes nothing.
 use Prim.Native.Nat.{min}
 use mathlib.Core.Path.{◌≡◌, sym, ◌∙◌}
-use mathlib.Core.Logic.{⊎_elim}
 use native.Mathlib.Omega.{arith}
 use lib.ListN.{length}
 use Rattle.code_item_scan.proofs.Starts.{tells_backward, tells_string, tells-short, tells-even}

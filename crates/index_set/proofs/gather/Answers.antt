@@ -1,6 +1,4 @@
-use Prim.Native.Nat.{◌-◌}
 use mathlib.Core.Path.{refl}
-use mathlib.Core.Logic.{⊎_elim}
 use Rattle.index_set.proofs.Gathering.{all_start, all-next, all-full, all_done, no_bits}
 use native.Mathlib.Omega.{arith}
 use Rattle.index_set.proofs.gather.Goals.{then-end-gt67108864, else-end-gt67108864, then-bits-i-ne0+in-Held, else-bits-i-ne0}

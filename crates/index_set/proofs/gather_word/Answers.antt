@@ -1,6 +1,4 @@
-use Prim.Native.Nat.{◌-◌}
 use Rattle.index_set.proofs.Gathering.{word_start, word_done, word-pass, word-joins, word-full, room}
-use mathlib.Core.Logic.{⊎_elim}
 use native.Mathlib.Omega.{arith}
 use Rattle.index_set.proofs.gather_word.Goals.{then-w-eq1+in-Held, else-w-eq1}
 use Rattle.index_set.proofs.gather_word.Goals as goal

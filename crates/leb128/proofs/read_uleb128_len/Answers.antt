@@ -1,6 +1,5 @@
 -- `read_uleb128_len` meets its contract: the length is that of the number, and the refusal that of its reader.
 -- Assumes nothing.
-use borrow.Author.Rules.{rules}
 use native.Mathlib.Omega.{arith}
 use mathlib.Core.Path.{ap}
 use Rattle.words.proofs.Shared.{met}

@@ -5,7 +5,6 @@ use mathlib.Core.List.{◌++◌}
 use Rattle.text_out.specs.Text.{decimal}
 use Rattle.text_out.proofs.Laws.{writes_then, writes_named, text_out}
 use Rattle.listing_text.specs.Text.{mids_text, off=, idx=, mids=, entry_out}
-use borrow.Author.Rules.{rules}
 use Rattle.listing_text.proofs.entry.Goals as goal
 
 -- UNMAPPED slice-aggregate-put-named

@@ -13,7 +13,6 @@ use Rattle.text_out.specs.Text.{decimal}
 use Rattle.text_out.proofs.Laws.{writes_then, writes_named, text_out}
 use Rattle.listing_text.specs.Text.{kind_name, hits=}
 use Rattle.listing_text.proofs.TextLaws.{head_unknown, head_known}
-use borrow.Author.Rules.{rules}
 use Rattle.listing_text.proofs.head.Goals as goal
 
 pub returns-then-kind-eq0 : goal.returns-then-kind-eq0

@@ -2,7 +2,6 @@
 -- Assumes nothing.
 use borrow.Author.Tests.{eq-eqb, ne_eqb}
 use Rattle.listing_text.specs.Text.{kind_name}
-use borrow.Author.Rules.{rules}
 use Rattle.listing_text.proofs.put_kind.Goals as goal
 
 -- UNMAPPED slice-aggregate-put

@@ -3,7 +3,6 @@
 use native.Mathlib.Omega.{arith}
 use Rattle.text_out.proofs.Laws.{writes_then}
 use Rattle.listing_text.proofs.TextLaws.{mids_some, mids_none}
-use borrow.Author.Rules.{rules}
 use Rattle.listing_text.proofs.put_mids.Goals as goal
 
 -- UNMAPPED slice-aggregate-put

@@ -1,5 +1,4 @@
 use mathlib.Core.Path.{refl}
-use Prim.Native.Nat.{◌-◌}
 use lib.Seq.{take_all}
 use Rattle.listing_text.proofs.TextLaws.{rest_none, more_next}
 use borrow.Author.Rules.{rules}

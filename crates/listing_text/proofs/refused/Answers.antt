@@ -6,7 +6,6 @@ use Rattle.text_out.proofs.Laws.{text_out}
 use Rattle.listing_text.proofs.TextLaws.{named_number}
 use Rattle.listing_text.specs.Text.{refusal=, refusal_out}
 use mathlib.Core.List.{◌++◌}
-use borrow.Author.Rules.{rules}
 use Rattle.listing_text.proofs.refused.Goals as goal
 
 -- UNMAPPED slice-aggregate-put-named

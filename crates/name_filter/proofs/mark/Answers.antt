@@ -1,4 +1,3 @@
-use Prim.Native.Nat.{◌-◌}
 use Rattle.name_filter.proofs.Marks.{passed_none, passed-index, passed_fault, passed-next, passed_all}
 use Rattle.name_filter.proofs.mark.Goals as goal
 

@@ -3,7 +3,6 @@
 use Rattle.request.specs.Request.{header_lines}
 use Rattle.words.proofs.Shared.{met}
 use Rattle.request.proofs.Laws.{no_strings}
-use borrow.Author.Rules.{rules}
 use Rattle.request.proofs.header_lines.Goals as goal
 
 -- UNMAPPED slice-aggregate-pair-line

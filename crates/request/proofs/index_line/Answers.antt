@@ -3,7 +3,6 @@
 -- Assumes nothing.
 use Rattle.words.proofs.Shared.{met}
 use Rattle.request.proofs.Laws.{line_unnamed, line_unread, line_unended, line_done, viewed}
-use borrow.Author.Rules.{rules}
 use Rattle.request.proofs.index_line.Goals as goal
 
 -- UNMAPPED slice-aggregate-read-word

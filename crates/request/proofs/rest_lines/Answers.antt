@@ -2,7 +2,6 @@
 -- Assumes nothing.
 use Rattle.request.specs.Request.{rest_lines}
 use Rattle.words.proofs.Shared.{met}
-use borrow.Author.Rules.{rules}
 use Rattle.request.proofs.rest_lines.Goals as goal
 
 -- UNMAPPED slice-aggregate-pair-line

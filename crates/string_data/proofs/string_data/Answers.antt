@@ -1,6 +1,5 @@
 use Rattle.string_data.proofs.Laws.{length_off, length_over, length_ends, length_more, length_none, too_large, small_enough}
 use Rattle.dalvik.specs.Numbers.{byte}
-use mathlib.Core.Logic.{⊎_elim}
 use mathlib.Core.Path.{◌≡◌, refl, sym, ◌∙◌}
 use Prim.Native.Nat.{◌≤◌, ◌-◌}
 use native.Mathlib.Omega.{arith}

@@ -4,10 +4,7 @@ use Rattle.string_data.proofs.Laws.{inside, stretch_found, stretch_none}
 use Rattle.string_data.specs.Text.{says}
 use Rattle.words.proofs.Shared.{met}
 use native.Mathlib.Omega.{arith}
-use lib.ListN.{length}
 use mathlib.Core.Path.{ap}
-use Prim.Native.Nat.{◌+◌, ◌<◌}
-use borrow.Author.Rules.{rules}
 use Rattle.string_data.proofs.string_data_bytes.Goals as goal
 
 pub returns-in_default : goal.returns-in_default

@@ -2,7 +2,6 @@
 -- Assumes nothing.
 use Rattle.string_data.proofs.Laws.{text_ends, text_open}
 use Rattle.words.proofs.Shared.{met}
-use borrow.Author.Rules.{rules}
 use Rattle.string_data.proofs.text_from.Goals as goal
 
 -- UNMAPPED enum-known-len

@@ -1,4 +1,3 @@
-use Prim.Native.Nat.{◌-◌}
 use Rattle.string_locator.proofs.LengthBytes.{length_start, length_off, length-again, length-stop}
 use borrow.Author.Rules.{rules}
 use native.Mathlib.Omega.{arith}

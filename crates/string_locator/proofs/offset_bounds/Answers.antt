@@ -1,7 +1,6 @@
 use Rattle.string_locator.proofs.Laws.{least_first, greatest_first, least_more, greatest_more}
 use Rattle.string_locator.specs.Map.{least, greatest}
 use mathlib.Core.Path.{◌≡◌, ap, ◌∙◌}
-use Prim.Native.Nat.{◌-◌}
 use native.Mathlib.Omega.{arith}
 use Rattle.string_locator.proofs.offset_bounds.Goals as goal
 

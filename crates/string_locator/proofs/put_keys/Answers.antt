@@ -3,7 +3,7 @@ use Rattle.sort_keys.specs.Sorted.{sorted}
 use lib.ListN.{set, length-set}
 use mathlib.Core.List.{List}
 use mathlib.Core.Path.{refl, ap, ◌∙◌}
-use Prim.Native.Nat.{ℕ, ◌+◌, ◌*◌, ◌-◌}
+use Prim.Native.Nat.{ℕ, ◌+◌, ◌*◌}
 use native.Mathlib.Omega.{arith}
 use Rattle.string_locator.proofs.put_keys.Goals as goal
 

@@ -1,4 +1,3 @@
-use Prim.Native.Nat.{◌-◌}
 use mathlib.Core.Path.{refl}
 use Rattle.word_set.specs.Steps.{over}
 use Rattle.index_set.proofs.Marking.{mark_start, mark_length, mark_end}

@@ -1,7 +1,6 @@
 use Rattle.string_search.proofs.Finds.{nearer, ahead_start, ahead_next, ahead_found, ahead_none}
 use Rattle.string_search.specs.Steps.{at_place, no_more}
 use mathlib.Core.Path.{refl}
-use Prim.Native.Nat.{◌-◌}
 use Rattle.string_search.proofs.next_find.Goals as goal
 
 pub loop-at-init : goal.loop-at-init

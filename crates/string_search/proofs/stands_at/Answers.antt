@@ -1,7 +1,6 @@
 use Rattle.word_set.proofs.Decides.{decided_yes, decided_no}
 use Rattle.byte_search.proofs.Occurs.{stands_bytes, byte_stands}
 use borrow.Author.Count.{below_more}
-use Prim.Native.Nat.{◌-◌}
 use borrow.Author.Rules.{rules}
 use native.Mathlib.Omega.{arith}
 use Rattle.string_search.proofs.stands_at.Goals as goal

@@ -2,7 +2,6 @@
 -- Assumes nothing.
 use mathlib.Core.Path.{sym, ◌∙◌}
 use Rattle.structs.proofs.Laws.{read32_value}
-use borrow.Author.Rules.{rules}
 use Rattle.structs.proofs.u32_at.Goals as goal
 
 -- UNMAPPED enum-known-v

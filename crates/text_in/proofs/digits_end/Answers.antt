@@ -1,4 +1,3 @@
-use Prim.Native.Nat.{◌-◌}
 use mathlib.Core.Path.{refl}
 use Rattle.text_in.proofs.Laws.{leading_end, leading_low, leading_high, leading_more}
 use borrow.Author.Rules.{rules}

@@ -3,7 +3,6 @@
 use native.Mathlib.Omega.{arith}
 use Rattle.words.proofs.Shared.{met}
 use Rattle.text_in.proofs.Laws.{number_past, number_none, number_large, number_some, digits_inside}
-use borrow.Author.Rules.{rules}
 use Rattle.text_in.proofs.read_number.Goals as goal
 
 pub returns-then-text-at : goal.returns-then-text-at

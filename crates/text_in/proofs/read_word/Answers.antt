@@ -1,4 +1,3 @@
-use Prim.Native.Nat.{◌-◌}
 use mathlib.Core.Path.{refl, ◌∙◌}
 use Rattle.text_in.proofs.Laws.{word_end, word_off, word_other, word_more}
 use native.Mathlib.Omega.{arith}

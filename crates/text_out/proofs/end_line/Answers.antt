@@ -2,7 +2,6 @@
 -- Assumes nothing.
 use native.Mathlib.Omega.{arith}
 use Rattle.text_out.proofs.Laws.{ends_fit, ends_over}
-use borrow.Author.Rules.{rules}
 use Rattle.text_out.proofs.end_line.Goals as goal
 
 -- UNMAPPED slice-aggregate-put

@@ -1,5 +1,4 @@
 use mathlib.Core.Path.{refl, ap, ◌∙◌}
-use Prim.Native.Nat.{◌-◌}
 use lib.ListN.{length, length-set}
 use lib.Seq.{take_all}
 use Rattle.text_out.proofs.Laws.{writes_none, writes_next}

@@ -1,4 +1,3 @@
-use Prim.Native.Nat.{◌-◌}
 use native.Mathlib.Omega.{arith}
 use Rattle.words.proofs.Filled.{filled_more, filled_all}
 use Rattle.words.proofs.clear_bytes.Goals as goal

@@ -1,4 +1,3 @@
-use Prim.Native.Nat.{◌-◌}
 use mathlib.Core.Path.{subst, ap}
 use Rattle.code_item_scan.specs.Steps.{marked, EvenHit}
 use Rattle.code_item_scan.proofs.Starts.{passed_skipped, passed_on, passed-found, passed-end}

@@ -1,4 +1,3 @@
-use Prim.Native.Nat.{◌-◌}
 use mathlib.Core.Path.{sym, ap, ◌∙◌}
 use Rattle.code_item_scan.specs.Steps.{marked}
 use Rattle.code_item_scan.proofs.Starts.{finds_hit, finds_nothing, came_on, came_found, came_end, came_skipped, string_miss}

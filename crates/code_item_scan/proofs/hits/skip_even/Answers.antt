@@ -1,4 +1,3 @@
-use Prim.Native.Nat.{◌-◌}
 use Rattle.code_item_scan.proofs.Starts.{even_skipped_none, even_skipped_one}
 use native.Mathlib.Omega.{arith}
 use Rattle.code_item_scan.proofs.hits.skip_even.Goals as goal

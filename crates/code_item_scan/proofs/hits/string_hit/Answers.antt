@@ -1,10 +1,9 @@
 -- Each way out is one way that the bytes at a start name no wanted index, or name one.
 -- Assumes nothing.
 use mathlib.Core.Path.{sym, ◌∙◌}
-use Prim.Native.Nat.{◌+◌, ◌-◌}
+use Prim.Native.Nat.{◌+◌}
 use native.Mathlib.Omega.{arith}
 use Rattle.dalvik.specs.Instructions.Kind.{strings}
-use mathlib.Core.Logic.{⊎_elim}
 use Rattle.dalvik.specs.Numbers.{byte}
 use Rattle.code_item_scan.proofs.Starts.{named_other, named_short, named_wanted, named_unwanted, index_four, index_two}
 use Rattle.kinds.proofs.Widths.{width_small}

@@ -1,6 +1,6 @@
 -- The test of both lengths decides: hits that fit stay, else both slices are cleared.
 -- Assumes nothing.
-use mathlib.Core.Logic.{⊎_elim, inl, inr}
+use mathlib.Core.Logic.{inl, inr}
 use Rattle.code_item_scan.proofs.Whole.{settle_kept, settle_cleared}
 use Rattle.code_item_scan.proofs.refusals.settle.Goals.{then-n-offs+else-n-marks, else-n-offs}
 use Rattle.code_item_scan.proofs.refusals.settle.Goals as goal

@@ -1,8 +1,7 @@
 use mathlib.Core.Path.{ap, ◌∙◌}
-use Prim.Native.Nat.{ℕ, ◌-◌}
+use Prim.Native.Nat.{ℕ}
 use lib.ListN.{length, get_or}
 use mathlib.Core.List.{List}
-use mathlib.Core.Logic.{⊎_elim}
 use lib.ListN.{length-replicate, get_or-replicate, length-set}
 use lib.Seq.{take_all}
 use Rattle.code_item_scan.specs.Scan.{is_in}
@@ -30,16 +29,16 @@ loop-i-preserved c =
     let k = c.loop-i in
     let h = c.loop-i-test.true in
     elim c.if-x-lt-INDICES.branch [
-    | then-x-lt-INDICES w ↦ (
-      ap length w.table-is ∙ simp length-set k.invariant.0,
-      omega arith,
-      λ y z. ap (λ (r : List ℕ). get_or r y 0) w.table-is ∙ table_marked l k.table k.i h k.invariant.2 k.invariant.0 y z,
-    )
-    | else-x-lt-INDICES w ↦ (
-      ap length w.table-is ∙ k.invariant.0,
-      omega arith,
-      λ y z. ap (λ (r : List ℕ). get_or r y 0) w.table-is ∙ table_passed l k.table k.i h k.invariant.2 w.if-x-lt-INDICES.false y z,
-    )
+      | then-x-lt-INDICES w ↦ (
+        ap length w.table-is ∙ simp length-set k.invariant.0,
+        omega arith,
+        λ y z. ap (λ (r : List ℕ). get_or r y 0) w.table-is ∙ table_marked l k.table k.i h k.invariant.2 k.invariant.0 y z,
+      )
+      | else-x-lt-INDICES w ↦ (
+        ap length w.table-is ∙ k.invariant.0,
+        omega arith,
+        λ y z. ap (λ (r : List ℕ). get_or r y 0) w.table-is ∙ table_passed l k.table k.i h k.invariant.2 w.if-x-lt-INDICES.false y z,
+      )
     ]
 
 pub returns : goal.returns

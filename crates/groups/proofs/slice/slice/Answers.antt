@@ -1,6 +1,5 @@
 -- Each test of the definition is one of the code, and a part of a slice is that stretch of its words.
 -- Assumes nothing.
-use Prim.Native.Nat.{◌+◌}
 use native.Mathlib.Omega.{arith}
 use Rattle.groups.proofs.Slices.{no_key, backward, past, fits}
 use Rattle.groups.proofs.slice.slice.Goals as goal

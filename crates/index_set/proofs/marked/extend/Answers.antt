@@ -1,5 +1,4 @@
 use borrow.Author.Rules.{rules}
-use Prim.Native.Nat.{◌-◌}
 use Rattle.index_set.proofs.Walking.{walk_start, walk-next, walk-full, walk_end}
 use Rattle.index_set.proofs.marked.extend.Goals as goal
 

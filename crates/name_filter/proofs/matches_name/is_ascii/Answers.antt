@@ -1,6 +1,5 @@
 use Rattle.name_filter.proofs.HasName.{ascii_start, ascii_more, ascii_end}
 use mathlib.Core.Path.{sym, ◌∙◌}
-use Prim.Native.Nat.{◌-◌}
 use native.Mathlib.Omega.{arith}
 use Rattle.name_filter.proofs.matches_name.is_ascii.Goals as goal
 

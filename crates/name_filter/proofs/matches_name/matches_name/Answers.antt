@@ -1,6 +1,5 @@
 use Rattle.word_set.proofs.Decides.{decided_yes, decided_no}
 use Rattle.name_filter.proofs.HasName.{has_empty_of, has_short, has_at, has_none, room_at, search-start, search-next, search-less}
-use Prim.Native.Nat.{◌-◌}
 use Rattle.name_filter.proofs.matches_name.matches_name.Goals as goal
 
 pub returns-then-n-eq0 : goal.returns-then-n-eq0

@@ -2,7 +2,6 @@ use Rattle.word_set.proofs.Decides.{decided_yes, decided_no}
 use Rattle.name_filter.proofs.HasName.{same_upto, other_name}
 use borrow.Author.Count.{below_more}
 use mathlib.Core.Path.{sym, ◌∙◌}
-use Prim.Native.Nat.{◌-◌}
 use borrow.Author.Rules.{rules}
 use native.Mathlib.Omega.{arith}
 use Rattle.name_filter.proofs.matches_name.stands_at.Goals as goal

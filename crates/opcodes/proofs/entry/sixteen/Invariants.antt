@@ -1,6 +1,5 @@
 -- The word holds the entries from place i on; each turn puts the one before it below them.
 -- Assumes nothing.
-use Prim.Native.Nat.{◌-◌}
 use Rattle.opcodes.proofs.Packed.{Held}
 use Rattle.opcodes.proofs.entry.sixteen.Given as goal
 

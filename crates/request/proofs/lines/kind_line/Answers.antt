@@ -3,7 +3,6 @@
 use mathlib.Core.Path.{ap, ◌∙◌}
 use Rattle.request.specs.Lines.{ended, kind_line}
 use Rattle.words.proofs.Shared.{met}
-use borrow.Author.Rules.{rules}
 use Rattle.request.proofs.lines.kind_line.Goals as goal
 
 -- UNMAPPED slice-aggregate-read-word

@@ -2,7 +2,6 @@
 -- Assumes nothing.
 use Rattle.request.specs.Lines.{pair_line}
 use Rattle.words.proofs.Shared.{met}
-use borrow.Author.Rules.{rules}
 use Rattle.request.proofs.lines.pair_line.Goals as goal
 
 pub returns-in_default : goal.returns-in_default

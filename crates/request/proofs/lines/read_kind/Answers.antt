@@ -2,7 +2,6 @@
 -- Assumes nothing.
 use Rattle.request.specs.Lines.{kind_at}
 use Rattle.words.proofs.Shared.{met}
-use borrow.Author.Rules.{rules}
 use Rattle.request.proofs.lines.read_kind.Goals as goal
 
 -- UNMAPPED slice-aggregate-read-word

@@ -1,6 +1,5 @@
 use Rattle.string_search.proofs.GoodKeys.{good-low, good-last, good-next, good_end}
 use mathlib.Core.Path.{sym, ◌∙◌}
-use Prim.Native.Nat.{◌-◌}
 use native.Mathlib.Omega.{arith}
 use Rattle.string_search.proofs.keys.keys_good.Goals as goal
 
