@@ -17,9 +17,9 @@ use Rattle.findrefs.specs.declared.Found.{Found}
 use Rattle.findrefs.specs.declared.Found.TheVariants as f
 
 -- the numbers handed out are those of an answer that is as the operation's own contract says
-pub record Told {A : Type 0} (numbersOf : A → List ℕ) (Right : A → Type 0) (numbers : List ℕ) : Type 0 where
+pub record Told {A : Type 0} (numbers_of : A → List ℕ) (Right : A → Type 0) (numbers : List ℕ) : Type 0 where
   pub answer : A
-  pub handed : numbers ≡ numbersOf answer
+  pub handed : numbers ≡ numbers_of answer
   pub right : Right answer
 
 -- ---- the numbers of each kind of answer

@@ -1,5 +1,5 @@
 -- What is not promised of an entry by itself, by computation on the whole case (SPEC, The program refs): a list that falls, and tables that no build
--- returned. Its array at 64 has const_string, return_void at 68 and nop at 70, and its one slot word is 1.
+-- returned. Its array at 64 has const-string, return-void at 68 and nop at 70, and its one slot word is 1.
 -- Assumes nothing.
 use Prim.Native.Nat.{ℕ}
 use native.Mathlib.Omega.{arith}

@@ -37,7 +37,7 @@ unfolding file codes le32 le16
 found_here =
     one_method file 48 4 (refl, refl) (refl, refl, refl, refl, refl, refl, refl) (refl, refl, refl, refl, refl) (refl, refl, refl)
 
--- const_string, return_void, nop
+-- const-string, return-void, nop
 array : (m : ℕ) → ArrayOf file (code_of 48 4 m)
 unfolding file le16 length_of format_of formats
 array m = record {

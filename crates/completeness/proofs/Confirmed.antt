@@ -30,7 +30,7 @@ use Rattle.completeness.proofs.Walks.{passes, in-buckets}
 use Rattle.completeness.proofs.Owners.{tables_for, slot_of, owner, slot_free, no_answer}
 use Rattle.completeness.proofs.Entries.{no_hit, off_at, Tells, an_entry, entry_tells, answers, answer_at}
 
-module _ {s : List ℕ} {mapoff classesOff classes methods : ℕ} {codes : List Code} (P : Supposed s mapoff classesOff classes methods codes) where
+module _ {s : List ℕ} {mapoff classes_off classes methods : ℕ} {codes : List Code} (P : Supposed s mapoff classes_off classes methods codes) where
   -- a slot word that stands for the methods with the code of c lists them
   pub lists_methods : (c : Code) (shares : List ℕ) (slot : ℕ) → listed shares slot ≡ some (arranged (sharing codes c.off))
       → Lists codes c shares slot

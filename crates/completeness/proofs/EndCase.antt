@@ -1,5 +1,5 @@
--- Two files that end with their last code item, in the middle of a block, and whose last instruction is a use: const_string in one,
--- const_string/jumbo in the other. Both meet the supposition, and the operations give the use.
+-- Two files that end with their last code item, in the middle of a block, and whose last instruction is a use: const-string in one,
+-- const-string/jumbo in the other. Both meet the supposition, and the operations give the use.
 -- Assumes nothing.
 use Prim.Native.Nat.{ℕ}
 use mathlib.Core.Path.{refl}
@@ -15,7 +15,7 @@ use Rattle.dalvik.specs.Instructions.Reached.{here}
 use Rattle.completeness.specs.Completeness.{ArrayOf, Supposed}
 use Rattle.completeness.proofs.WorkedFile.{one_method, next, code_of, codes_from, supposed, header_of, Worked}
 
--- as the whole case, but for the array at 64, of four units, with which the file ends: return_void and six bytes
+-- as the whole case, but for the array at 64, of four units, with which the file ends: return-void and six bytes
 abbrev ending : ℕ → ℕ → ℕ → ℕ → ℕ → ℕ → List ℕ
 ending a b c d e f =
     replicate 24 0 ++ (0x20 ∷ replicate 9 0) ++ (0x01 ∷ 0 ∷ 0 ∷ 0x01 ∷ 0x30 ∷ replicate 21 0)
@@ -44,7 +44,7 @@ worked_at off file = record {
   methods = 0 ∷ [];
 }
 
--- ---- nop, const_string
+-- ---- nop, const-string
 unfoldable pub file : List ℕ
 file = ending 0 0 0x1a 0 0x05 0
 
@@ -62,7 +62,7 @@ as_supposed = supposed file 48 4 1 (refl, refl, refl, refl, refl) (found_here 0 
 unfoldable pub worked : Worked
 worked = worked_at 68 file
 
--- ---- const_string/jumbo
+-- ---- const-string/jumbo
 unfoldable pub jumbo_file : List ℕ
 jumbo_file = ending 0x1b 0 0x05 0 0 0
 

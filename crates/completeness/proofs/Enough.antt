@@ -33,7 +33,7 @@ lent_of methods w = record {
   further = length w.located.further;
 }
 
-module _ {s : List ℕ} {mapoff classesOff classes methods : ℕ} {codes : List Code} (P : Supposed s mapoff classesOff classes methods codes) where
+module _ {s : List ℕ} {mapoff classes_off classes methods : ℕ} {codes : List Code} (P : Supposed s mapoff classes_off classes methods codes) where
   pub codes_most : length codes ≤ methods
   codes_most = codes_few methods codes P.once (λ c m. (P.each c m).below)
 

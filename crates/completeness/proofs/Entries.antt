@@ -46,7 +46,7 @@ pub record Tells (s : List ℕ) (kind : Kind) (wanted : List ℕ) (o x : ℕ) : 
   pub names : Names s o x kind
   pub is_wanted : Memᴰ x wanted
 
-module _ {s : List ℕ} {mapoff classesOff classes methods : ℕ} {codes : List Code} (P : Supposed s mapoff classesOff classes methods codes)
+module _ {s : List ℕ} {mapoff classes_off classes methods : ℕ} {codes : List Code} (P : Supposed s mapoff classes_off classes methods codes)
     (kind : Kind) (wanted : List ℕ) where
   abbrev from : ℕ
   from = base_of codes * 16

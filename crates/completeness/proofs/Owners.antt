@@ -71,7 +71,7 @@ no_answer s starts shares t v a z (walked m f p i q) =
     (λ (h : confirms s p t ≡ false). rw h at q)
     (case (confirms s p t))
 
-module _ {s : List ℕ} {mapoff classesOff classes methods : ℕ} {codes : List Code} (P : Supposed s mapoff classesOff classes methods codes) (i j k : ℕ) where
+module _ {s : List ℕ} {mapoff classes_off classes methods : ℕ} {codes : List Code} (P : Supposed s mapoff classes_off classes methods codes) (i j k : ℕ) where
   abbrev T : Tables
   T = tables_for methods codes i j k
 

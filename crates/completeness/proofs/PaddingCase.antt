@@ -15,7 +15,7 @@ use Rattle.dalvik.specs.Instructions.Reached.{here}
 use Rattle.completeness.specs.Completeness.{ArrayOf, Supposed}
 use Rattle.completeness.proofs.WorkedFile.{one_method, next, code_of, codes_from, supposed, header_of, Worked}
 
--- as the whole case, but for the array from 64 to 72, return_void, nop and const_string, and the padding, 1a 00 05 00
+-- as the whole case, but for the array from 64 to 72, return-void, nop and const-string, and the padding, 1a 00 05 00
 unfoldable pub file : List ℕ
 file =
     replicate 24 0 ++ (0x20 ∷ replicate 9 0) ++ (0x01 ∷ 0 ∷ 0 ∷ 0x01 ∷ 0x30 ∷ replicate 21 0)

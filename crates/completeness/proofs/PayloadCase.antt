@@ -1,5 +1,5 @@
 -- Two files with payloads among their instructions, which meet the supposition. In one all three kinds stand between uses, among these a jumbo one
--- after a sparse switch; in the other the array begins with a payload. Data in a payload of each read as a const_string of the wanted index, and
+-- after a sparse switch; in the other the array begins with a payload. Data in a payload of each read as a const-string of the wanted index, and
 -- are not confirmed.
 -- Assumes nothing.
 use Prim.Native.Nat.{ℕ}
@@ -28,7 +28,7 @@ header = header_of 1 1 0
 unfoldable pub hit : ℕ → Hit
 hit off = record { off = off; mark = 5 }
 
--- ---- const_string, packed switch, const_string, sparse switch, const_string/jumbo, nop, array data, const_string, return_void
+-- ---- const-string, packed switch, const-string, sparse switch, const-string/jumbo, nop, array data, const-string, return-void
 unfoldable pub file : List ℕ
 file =
     front ++ (30 ∷ 0 ∷ 0 ∷ 0 ∷ [])
@@ -76,7 +76,7 @@ worked = record {
   methods = 0 ∷ [];
 }
 
--- ---- array data, const_string, return_void
+-- ---- array data, const-string, return-void
 unfoldable pub first_file : List ℕ
 first_file =
     front ++ (9 ∷ 0 ∷ 0 ∷ 0 ∷ [])

@@ -1,5 +1,5 @@
 -- A second file that meets the supposition, for the parts that the whole case lacks: class data by the map, a field, direct and virtual methods,
--- three methods with one code, const_string/jumbo, a payload, and an entry after the array.
+-- three methods with one code, const-string/jumbo, a payload, and an entry after the array.
 -- Assumes nothing.
 use Prim.Native.Nat.{ℕ}
 use native.Mathlib.Omega.{arith}
@@ -44,7 +44,7 @@ found_here =
     (coded file 32 (refl, refl, refl, refl, refl) EncodedMethods.no_more))
     Successive.no_more)
 
--- const_string, const_string/jumbo, return_void, and a packed_switch payload of size 0
+-- const-string, const-string/jumbo, return-void, and a packed-switch payload of size 0
 array : (m : ℕ) → ArrayOf file (code_of 36 10 m)
 unfolding file le16 length_of format_of formats
 array m = record {
@@ -56,7 +56,7 @@ as_supposed : Supposed file 4 0 0 3 codes
 unfolding file codes
 as_supposed = supposed file 36 10 3 (refl, refl, refl, refl, refl) found_here array
 
--- ---- const_string, const_string/jumbo, and the entry after the array, which is not confirmed; second found, first found, then the rest
+-- ---- const-string, const-string/jumbo, and the entry after the array, which is not confirmed; second found, first found, then the rest
 unfoldable pub worked : Worked
 worked = record {
   file = file;

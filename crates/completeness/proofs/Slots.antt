@@ -10,7 +10,7 @@ use mathlib.Core.List.{List, [], ◌∷◌, ◌++◌, append-nil, append_assoc, 
 use lib.ListN.{length, get_or, replicate, length-replicate}
 use borrow.Author.Tests.{eq-eqb, ne_eqb}
 use Rattle.words.specs.Padded.{stretch}
-use Rattle.words.proofs.Padded.{get_d_zeros, length_stretch}
+use Rattle.words.proofs.Padded.{get_or_zeros, length_stretch}
 use Rattle.dalvik.specs.CodeItem.{Code}
 use Rattle.class_data.specs.Stored.{first_bucket, last_bucket}
 use Rattle.code_table.specs.Slots.{base_of, top_of, Table, joined, joined_slot, place, table_from, table_of}
@@ -42,7 +42,7 @@ place_shares : (base : ℕ) (c : Code) (t : Table) → (place base c t).shares �
 unfolding place
 place_shares base c t = refl
 
-module _ {s : List ℕ} {mapoff classesOff classes methods : ℕ} {codes : List Code} (P : Supposed s mapoff classesOff classes methods codes) where
+module _ {s : List ℕ} {mapoff classes_off classes methods : ℕ} {codes : List Code} (P : Supposed s mapoff classes_off classes methods codes) where
   -- an array has a unit
   pub some_units : (c : Code) → Memᴰ c codes → 0 < c.units
   some_units c m = omega (arith, (P.each c m).array.one_or_more)
@@ -61,8 +61,8 @@ module _ {s : List ℕ} {mapoff classesOff classes methods : ℕ} {codes : List 
     n = 0;
     whole = refl;
     roomy = length-replicate (top_of codes - base_of codes) 0;
-    held = λ d m b i. free (get_d_zeros (top_of codes - base_of codes) (b - base_of codes));
-    vacant = λ b le f. get_d_zeros (top_of codes - base_of codes) (b - base_of codes);
+    held = λ d m b i. free (get_or_zeros (top_of codes - base_of codes) (b - base_of codes));
+    vacant = λ b le f. get_or_zeros (top_of codes - base_of codes) (b - base_of codes);
   }
 
   module _ (c : Code) (m : Memᴰ c codes) (t : Table) (roomy : length t.slots ≡ top_of codes - base_of codes) where

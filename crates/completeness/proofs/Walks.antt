@@ -17,7 +17,7 @@ use Rattle.completeness.proofs.Buckets.{InBuckets}
 use Rattle.completeness.proofs.Slots.{some_units}
 use Rattle.completeness.proofs.Found.{AllTested}
 
-module _ {s : List ℕ} {mapoff classesOff classes methods : ℕ} {codes : List Code} (P : Supposed s mapoff classesOff classes methods codes) where
+module _ {s : List ℕ} {mapoff classes_off classes methods : ℕ} {codes : List Code} (P : Supposed s mapoff classes_off classes methods codes) where
   -- the class data walk's tests pass
   pub tested : AllTested s methods codes
   tested c m =

@@ -151,11 +151,11 @@ module _ (s : List ℕ) where
     distinct zero k = tt
     distinct (suc n) k = ((λ h. omega (arith, from_first n (suc k) k h)), distinct n (suc k))
 
-    pub supposed : {mapoff classesOff classes : ℕ} (n : ℕ)
+    pub supposed : {mapoff classes_off classes : ℕ} (n : ℕ)
         → (all_bytes s ≡ true) × (leb (length s) most_bytes ≡ true) × (leb n method_limit ≡ true) × (off % 4 ≡ 0)
         × (leb (off + 16 + 2 * units) (length s) ≡ true)
-        → CodesOf s mapoff classesOff classes (codes_from off units n 0) → ((m : ℕ) → ArrayOf s (code_of off units m))
-        → Supposed s mapoff classesOff classes n (codes_from off units n 0)
+        → CodesOf s mapoff classes_off classes (codes_from off units n 0) → ((m : ℕ) → ArrayOf s (code_of off units m))
+        → Supposed s mapoff classes_off classes n (codes_from off units n 0)
     supposed n t found array =
         let few : n ≤ method_limit = leb-true n method_limit t.2 in
         record {

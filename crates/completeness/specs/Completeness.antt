@@ -56,12 +56,12 @@ pub record PublishedCode (s : List ℕ) (methods : ℕ) (c : Code) : Type 0 wher
 
 -- The numbers are the header record's: the map's offset, the class definitions' offset and count, and the count of method ids. It isn't
 -- supposed that the record is the file's own: less is supposed than the demand allows
-pub record Supposed (s : List ℕ) (mapoff classesOff classes methods : ℕ) (codes : List Code) : Type 0 where
+pub record Supposed (s : List ℕ) (mapoff classes_off classes methods : ℕ) (codes : List Code) : Type 0 where
   pub bytes : Bytes s
   -- "a file of at most 16 MiB"
   pub small : length s ≤ most_bytes
   -- "map, class definitions, class data .. lie inside as published": these are the methods with code, in the order found
-  pub found : CodesOf s mapoff classesOff classes codes
+  pub found : CodesOf s mapoff classes_off classes codes
   -- "no method has code twice"
   pub once : Distinct (methods_of codes)
   pub each : (c : Code) → Memᴰ c codes → PublishedCode s methods c

@@ -61,9 +61,9 @@ pub data Defined (s : List ℕ) : ℕ → ℕ → List Code → Type 0 where
 
 -- the codes of the file, in the order found: by the map's first entry of class data, else by the class definitions. The numbers
 -- are the header record's: the map's offset, and the class definitions' offset and count
-pub data CodesOf (s : List ℕ) (mapoff classesOff classes : ℕ) : List Code → Type 0 where
+pub data CodesOf (s : List ℕ) (mapoff classes_off classes : ℕ) : List Code → Type 0 where
   by_map : {e : ℕ} {cs : List Code} → mapoff ≢ 0 → mapoff + 4 ≤ length s → ClassDataEntry s (le32 s mapoff) (mapoff + 4) e
-      → Successive s (map_size s e) (map_offset s e) cs → CodesOf s mapoff classesOff classes cs
+      → Successive s (map_size s e) (map_offset s e) cs → CodesOf s mapoff classes_off classes cs
   without_entry : {cs : List Code} → mapoff ≢ 0 → mapoff + 4 ≤ length s → NoClassDataEntry s (le32 s mapoff) (mapoff + 4)
-      → Defined s classes classesOff cs → CodesOf s mapoff classesOff classes cs
-  without_map : {cs : List Code} → mapoff ≡ 0 → Defined s classes classesOff cs → CodesOf s mapoff classesOff classes cs
+      → Defined s classes classes_off cs → CodesOf s mapoff classes_off classes cs
+  without_map : {cs : List Code} → mapoff ≡ 0 → Defined s classes classes_off cs → CodesOf s mapoff classes_off classes cs

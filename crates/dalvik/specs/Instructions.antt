@@ -36,7 +36,7 @@ pub record InstructionOf (s : List ℕ) (c : Code) (p n : ℕ) : Type 0 where
 pub data Kind : Type 0 where
   strings types fields methods : Kind
 
--- const_class, check_cast, instance_of; new-instance, new-array, filled-new-array, filled-new-array/range
+-- const-class, check-cast, instance-of; new-instance, new-array, filled-new-array, filled-new-array/range
 pub data TypeOpcode (op : ℕ) : Type 0 where
   const_class : op ≡ 0x1c → TypeOpcode op
   check_cast : op ≡ 0x1f → TypeOpcode op
@@ -48,7 +48,7 @@ pub data FieldOpcode (op : ℕ) : Type 0 where
   iinstanceop : 0x52 ≤ op → op ≤ 0x5f → FieldOpcode op
   sstaticop : 0x60 ≤ op → op ≤ 0x6d → FieldOpcode op
 
--- invoke-kind, invoke-kind/range, invoke_polymorphic and invoke_polymorphic/range
+-- invoke-kind, invoke-kind/range, invoke-polymorphic and invoke-polymorphic/range
 pub data MethodOpcode (op : ℕ) : Type 0 where
   invoke : 0x6e ≤ op → op ≤ 0x72 → MethodOpcode op
   invoke_range : 0x74 ≤ op → op ≤ 0x78 → MethodOpcode op

@@ -8,7 +8,7 @@ use Rattle.groups.specs.Groups.{ids_where, joined, tabulate}
 use Rattle.groups.specs.Built.{groups_of}
 use Rattle.groups.specs.Stretch.{stretch_of}
 use Rattle.words.specs.Padded.{stretch}
-use Rattle.code_table.specs.Slots.{joined as joinedShare, joined_slot, place, table_of}
+use Rattle.code_table.specs.Slots.{joined as joined_share, joined_slot, place, table_of}
 use Rattle.slot_listing.specs.Listing.{chain, listed, list_out}
 use Rattle.string_search.specs.Owner.{owner}
 use Rattle.opcodes.specs.Length.{length_read, units_of}
@@ -22,7 +22,7 @@ use Rattle.class_data.specs.Stored.{starts_of}
 use Rattle.examples.specs.Table.{Table}
 
 pub checked : Table
-unfolding uleb_fast uleb uleb_len length_read units_of string_text after_length text_from first_zero zero_of le16 le32 ids_where joined tabulate groups_of stretch_of scan_out kind_of hits_by hits_in is_tried width_of index_at stretch joined_slot place table_of chain listed list_out joinedShare owner step payload_units walk_in walk slot_at first_of locate_from locate_all locate_out pair_of with_array no_starts starts_of
+unfolding uleb_fast uleb uleb_len length_read units_of string_text after_length text_from first_zero zero_of le16 le32 ids_where joined tabulate groups_of stretch_of scan_out kind_of hits_by hits_in is_tried width_of index_at stretch joined_slot place table_of chain listed list_out joined_share owner step payload_units walk_in walk slot_at first_of locate_from locate_all locate_out pair_of with_array no_starts starts_of
 checked = record {
   two_bytes = refl;
   greatest = refl;

@@ -16,7 +16,7 @@ use lib.ListN.{length, get_or, set}
 use lib.Seq.{get_or-set_same, get_or-set_other, set_out}
 use borrow.Author.Tests.{lt-ltb, le-leb, ltb-true, ltb-false, eqb-true, eqb-false, eq-eqb, ne_eqb}
 use Rattle.words.specs.Padded.{zeros}
-use Rattle.words.proofs.Padded.{get_d_zeros}
+use Rattle.words.proofs.Padded.{get_or_zeros}
 use Rattle.words.proofs.Shared.{case, and_left, and_right, some_inj}
 use Rattle.start_words.specs.Starts.{pair_count, Pair, pair_of}
 use Rattle.insn_walk.specs.Walk.{lands}
@@ -54,7 +54,7 @@ module _ (s : List ℕ) (start m t : ℕ) (last : List ℕ) (from : ℕ) (here :
 
 module _ (s : List ℕ) (T : Tables) where
   pub ready_none : (low n : ℕ) → Ready s T low (zeros n)
-  ready_none low n m p e u h = rw (get_d_zeros n m)
+  ready_none low n m p e u h = rw (get_or_zeros n m)
 
   pub ready_later : (t : ℕ) (last : List ℕ) → ReadyOn s T t last last
   ready_later t last low le R m p e u h = R m p e u (omega arith)
@@ -84,7 +84,7 @@ from_place : (s : List ℕ) (p : Pair) (from t : ℕ) → walks s from t ≡ wal
 from_place s p from t e = rw e
 
 from_none : (s : List ℕ) (p : Pair) (n m t : ℕ) → confirmed_by s p (from_of p.start (get_or (zeros n) m 0)) t ≡ confirms s p t
-from_none s p n m t = ap (λ (x : ℕ). confirmed_by s p (from_of p.start x) t) (get_d_zeros n m)
+from_none s p n m t = ap (λ (x : ℕ). confirmed_by s p (from_of p.start x) t) (get_or_zeros n m)
 
 -- ---- one entry of a list that does not fall
 

@@ -42,7 +42,7 @@ pub record Fitting (v : Sieve) (count x : ℕ) : Type 0 where
 
 -- how many methods are looked at
 abbrev pub asked_count : ℕ → Bool → Bool → ℕ
-asked_count size byClass byName = cond (byClass || byName) size 0
+asked_count size by_class by_name = cond (by_class || by_name) size 0
 
 pub record Risen (types names : List ℕ) : Type 0 where
   pub types_rise : Rising types

@@ -8,7 +8,7 @@ mod refusals; // refusals.rt: what is refused, of a call and of one text
 
 ghost use Rattle.std.specs.Prelude.{◌≡◌, ◌+◌};
 ghost use Rattle.dalvik.specs.Numbers.{le32};
-ghost use Rattle.dalvik.specs.Ids.{string_data_off as dataOff};
+ghost use Rattle.dalvik.specs.Ids.{string_data_off as data_off};
 ghost use Rattle.word_set.specs.Found.{Found};
 ghost use Rattle.name_filter.specs.Faults.{filter_fault};
 ghost use Rattle.name_filter.specs.Names.{Named};
@@ -21,7 +21,7 @@ use word_set::{Fault, Insertion};
 
 // The data offset of a string.
 fn data_offset(file: &[u8], table: u32, index: u32) -> usize
-    ensures { result ≡ dataOff file.now table index }
+    ensures { result ≡ data_off file.now table index }
 {
     structs::u32_at(file, (table as usize) + 4 * (index as usize)) as usize
 }

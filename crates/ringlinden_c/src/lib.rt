@@ -7,17 +7,17 @@ ghost use Rattle.dalvik.specs.Numbers.{le32};
 ghost use Rattle.refusal.specs.Outcomes.{Gives as GivesWords};
 ghost use Rattle.refusal.specs.declared.Answer.{Answer as AnAnswer};
 ghost use Rattle.groups.specs.Built.{group_words, Gives as GivesGroups};
-ghost use Rattle.type_locator.specs.Built.{outcome as typesOutcome};
-ghost use Rattle.method_locator.specs.Built.{method_words, outcome as methodsOutcome, Gives as GivesMethods};
+ghost use Rattle.type_locator.specs.Built.{outcome as types_outcome};
+ghost use Rattle.method_locator.specs.Built.{method_words, outcome as methods_outcome, Gives as GivesMethods};
 ghost use Rattle.method_locator.specs.declared.Built.{Built as MethodGroups};
 ghost use Rattle.string_locator.specs.Map.{Built as BuiltMap};
 ghost use Rattle.string_locator.specs.declared.StringMap.{StringMap as AMap};
-ghost use Rattle.string_data.specs.Text.{string_text, says as textSays};
+ghost use Rattle.string_data.specs.Text.{string_text, says as text_says};
 ghost use Rattle.string_data.specs.declared.StringText.{StringText as AText};
 ghost use Rattle.word_set.specs.Found.{Found as FoundWords};
 ghost use Rattle.string_search.specs.Search.{area, Owns, search_fault};
 ghost use Rattle.type_search.specs.Types.{type_words, Searched as TypesSearched};
-ghost use Rattle.method_search.specs.Methods.{query as classAndName, search_for, search_words, Searched as MethodsSearched};
+ghost use Rattle.method_search.specs.Methods.{query as class_and_name, search_for, search_words, Searched as MethodsSearched};
 ghost use Rattle.name_filter.specs.Faults.{filter_fault};
 ghost use Rattle.name_filter.specs.Names.{Named};
 ghost use Rattle.code_table.specs.Build.{build_out};
@@ -53,7 +53,7 @@ pub extern "C" fn ringlinden_type_groups(
 ) -> u32
     ensures gives { let before = group_words str_offsets.old type_idxs.old in
         let after = group_words str_offsets.new type_idxs.new in
-        let outcome = typesOutcome file.now (header_of header.now) before in
+        let outcome = types_outcome file.now (header_of header.now) before in
         Told of_answer (λ (a : AnAnswer). GivesGroups outcome a before after) (result ∷ count.new ∷ []) }
 {
     ringlinden::ringlinden_type_groups(file, header, str_offsets, type_idxs, count)
@@ -75,7 +75,7 @@ pub extern "C" fn ringlinden_method_groups(
         (group_words name_offsets.old name_mids.old) in
         let after = method_words (group_words clz_offsets.new clz_mids.new)
         (group_words name_offsets.new name_mids.new) in
-        let outcome = methodsOutcome file.now (header_of header.now) before in
+        let outcome = methods_outcome file.now (header_of header.now) before in
         let told = result ∷ clz_count.new ∷ name_count.new ∷ [] in
         Told of_method_groups (λ (a : MethodGroups). GivesMethods outcome a before after) told }
 {
@@ -133,7 +133,7 @@ pub extern "C" fn ringlinden_string_bytes(
     start: &mut usize,
     count: &mut usize,
 ) -> u32
-    ensures gives { let Right : AText → Type 0 = λ a. textSays a ≡ string_text file.now offset in
+    ensures gives { let Right : AText → Type 0 = λ a. text_says a ≡ string_text file.now offset in
         Told of_string_text Right (result ∷ start.new ∷ count.new ∷ []) }
 {
     ringlinden::ringlinden_string_bytes(file, offset, start, count)
@@ -211,7 +211,7 @@ pub extern "C" fn ringlinden_method_search(
 ) -> u32
     ensures gives { let searched = area file.now keys.now start end in
         let table = group_words str_offsets.now type_idxs.now in
-        let asked = search_for searched (classAndName class.now name.now) table (header_of header.now).methods in
+        let asked = search_for searched (class_and_name class.now name.now) table (header_of header.now).methods in
         let before = search_words strings.old types.old out.old in
         let after = search_words strings.new types.new out.new in
         Told of_answer (λ (a : AnAnswer). MethodsSearched asked a before after) (result ∷ count.new ∷ []) }

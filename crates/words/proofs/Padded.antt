@@ -1,6 +1,6 @@
 -- Laws of lent words. Each holds since zeros after a list neither change what is read nor are changed by what is written before them.
 --     padded     length_padded, padded_longer, padded_none, padded_full, padded_at, padded_set, padded_push, padded_part, padded_zeros, padded_front, sets_zeros
---     zeros      get_d_zeros, cleared_again
+--     zeros      get_or_zeros, cleared_again
 --     part       length_part
 --     stretch    length_stretch, stretch_padded, lent_fill
 -- Assumes nothing.
@@ -34,13 +34,13 @@ padded_full n xs h =
     let z : n - length xs ≡ 0 = omega arith in
     rw (z, append-nil)
 
-pub get_d_zeros : (n i : ℕ) → ◌≡◌ {A = ℕ} (get_or (zeros n) i 0) 0
-get_d_zeros zero i = refl
-get_d_zeros (suc n) zero = refl
-get_d_zeros (suc n) (suc i) = get_d_zeros n i
+pub get_or_zeros : (n i : ℕ) → ◌≡◌ {A = ℕ} (get_or (zeros n) i 0) 0
+get_or_zeros zero i = refl
+get_or_zeros (suc n) zero = refl
+get_or_zeros (suc n) (suc i) = get_or_zeros n i
 
 at_zeros : (xs : List ℕ) (n i : ℕ) → get_or (xs ++ zeros n) i 0 ≡ get_or xs i 0
-at_zeros [] n i = get_d_zeros n i
+at_zeros [] n i = get_or_zeros n i
 at_zeros (x ∷ xs) n zero = refl
 at_zeros (x ∷ xs) n (suc i) = at_zeros xs n i
 
