@@ -1,7 +1,7 @@
 -- The hits of a region are exactly the starts that pass the scan's test, rise, and are no more than the starts that are tried: the starts are
 -- tried one after another. Who speaks of the list of hits cites these laws and unfolds nothing.
 --     is_tried    tried_even, even_tried
---     Tested     hit_is, hit_tested
+--     Tested      hit_is, hit_tested
 --     hits_by     hits_above, hits_complete, hits_sound, hits_few, hits_half
 -- Assumes nothing.
 use Prim.Native.Nat.{ℕ, zero, suc, ◌+◌, ◌-◌, ◌/◌, ◌%◌, ◌≤◌, ◌<◌}

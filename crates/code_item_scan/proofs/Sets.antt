@@ -1,8 +1,8 @@
 -- The tables tell which indices are wanted, since each word of the list that was passed has left its trace in them.
 --     is_in       is_in_take, is_in_last, is_in_not_last
---     TableOf    table_marked, table_passed, table_tells
---     WantedOf   wanted_none, wanted_in, wanted_out, wanted_tells
---     Tells      tells_listed, tells_table
+--     TableOf     table_marked, table_passed, table_tells
+--     WantedOf    wanted_none, wanted_in, wanted_out, wanted_tells
+--     Tells       tells_listed, tells_table
 -- Assumes nothing.
 use mathlib.Core.Path.{◌≡◌, refl, ap, sym, ◌∙◌}
 use mathlib.Core.Bool.{Bool, true, false, not, ◌&&◌, ◌||◌}

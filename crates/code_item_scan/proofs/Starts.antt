@@ -1,10 +1,10 @@
 -- What one start tells and what is left after it: a start that names no wanted index, or is not tried, drops out of the hits, and where a
 -- region begins matters only for which starts are tried.
---     named      named_other, named_short, named_unwanted, named_wanted, named_even
+--     named       named_other, named_short, named_unwanted, named_wanted, named_even
 --     hits_by     no_hits, hits_alike
---     Came       came_on, came_found, came_end, came_skipped, string_miss, string_found
---     Passed     passed_skipped, passed_on, passed-found, passed-end
---     Tells      tells_backward, tells_string, tells-short, tells-even
+--     Came        came_on, came_found, came_end, came_skipped, string_miss, string_found
+--     Passed      passed_skipped, passed_on, passed-found, passed-end
+--     Tells       tells_backward, tells_string, tells-short, tells-even
 -- Assumes nothing.
 use mathlib.Core.Path.{◌≡◌, refl, ap, sym, ◌∙◌, subst}
 use mathlib.Core.Bool.{Bool, true, false, ◌&&◌, cond}

@@ -4,7 +4,7 @@ ghost use Rattle.code_item_scan.specs.Scan.{is_in};
 ghost use Rattle.code_item_scan.specs.Next.{index_set_of, index_count, listed};
 ghost use Rattle.code_item_scan.specs.Steps.{TableOf, NoneHeld, WantedOf};
 
-// How many indices of two bytes there are (`indexCount` of specs/Next.antt).
+// How many indices of two bytes there are (`index_count` of specs/Next.antt).
 pub(crate) const INDICES: usize = 65536;
 
 // A table of the indices of two bytes: 1 where the index is wanted, else 0.

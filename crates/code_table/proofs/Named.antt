@@ -1,8 +1,8 @@
 -- What a build that succeeds has, whatever the file is: it is the whole build of the codes found, which the room has no part in. Only placing a
 -- code writes slots and shares, and the walk lets a code pass only where its method is below the number of methods.
---     SlotWord, slots_named            each slot word
---     starts_of_length, starts_length   the start words
---     build_small, build_is            the file's size, and which build it is
+--     SlotWord, slots_named              each slot word
+--     starts_of_length, starts_length    the start words
+--     build_small, build_is              the file's size, and which build it is
 -- Assumes nothing.
 use Prim.Native.Nat.{ℕ, zero, suc, ◌+◌, ◌-◌, ◌*◌, ◌/◌, ◌%◌, ◌≤◌, ◌<◌}
 use native.Mathlib.Omega.{arith}

@@ -1,7 +1,7 @@
 -- Confirmed hits of two lists of wanted indices together are those of each, merged: the starts are tried one after another, a start is a hit
 -- for both together where it is one for either, and every later entry has a greater offset.
---     entry_for, shown   confirmed hits, as entries
---     shown_merged      the law
+--     entry_for, shown    confirmed hits, as entries
+--     shown_merged        the law
 -- Assumes nothing.
 use Prim.Native.Nat.{ℕ, zero, suc, ◌+◌, ◌-◌, ◌≤◌}
 use native.Mathlib.Omega.{arith}

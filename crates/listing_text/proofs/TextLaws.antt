@@ -1,8 +1,8 @@
 -- Laws of the methods' text and of the head's number of a kind.
---     more       rest_none, more_next
---     mids_text   mids_some, mids_none
---     head_out    head_unknown, head_known
---     decimal    named_number
+--     more         rest_none, more_next
+--     mids_text    mids_some, mids_none
+--     head_out     head_unknown, head_known
+--     decimal      named_number
 -- Assumes nothing.
 use Prim.Native.Nat.{ℕ, suc, ◌+◌, ◌-◌, ◌≤◌, ◌<◌}
 use native.Mathlib.Omega.{arith}

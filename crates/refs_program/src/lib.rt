@@ -99,7 +99,7 @@ fn print_entries(
 }
 
 // A line has at most 45,091 bytes: 4,096 methods of ten digits with commas between them, and what stands around them. So it is refused
-// only as its listing is (`line-fits` of entry_lines).
+// only as its listing is (`line_fits` of entry_lines).
 fn print_found(
     rt: &impl Print,
     kind: u32,

@@ -72,7 +72,7 @@ pub fn number(r: Refusal) -> u32
     }
 }
 
-// The bytes that a file may have (`largestFile` of specs/Refusals.antt).
+// The bytes that a file may have (`largest_file` of specs/Refusals.antt).
 pub const LARGEST_FILE: usize = 16777216;
 
 // Whether a file of len bytes is refused.

@@ -1,8 +1,8 @@
 -- Laws of the writers: what is written in two pieces is what is written in one, since a place one after the end takes no byte.
---     Writes     writes_none, writes-byte, writes_then, writes_named, writes_next
---     Ends       ends_fit, ends_over
+--     Writes          writes_none, writes_then, writes_named, writes_next
+--     Ends            ends_fit, ends_over
 --     text_outcome    text_out, text_room
---     decimal    decimal_is, decimal_short
+--     decimal         decimal_is, decimal_short
 -- Assumes nothing.
 use Prim.Native.Nat.{ℕ, zero, suc, ◌+◌, ◌-◌, ◌/◌, ◌%◌, ◌^◌, ◌≤◌, ◌<◌, min}
 use native.Mathlib.Nat.{pow-le-pow_right, lt_of_lt_of_le, not-le_of_lt, le_trans, add-zero}

@@ -21,14 +21,6 @@ loop-pos-init c = (
   c.nearer-bound.ensures,
 )
 
--- UNMAPPED enum-known-next
--- enum-known-next : tie.Need-enum-known-next invariant-loop decreases-loop
--- enum-known-next c = search rules
-
--- UNMAPPED enum_told
--- enum_told : tie.Need-enum-told invariant-loop decreases-loop
--- enum_told c = search rules
-
 pub returns-in_default : goal.returns-in_default
 returns-in_default c =
     let going = c.loop-pos.invariant.0 in

@@ -7,14 +7,6 @@ use Rattle.leb128.specs.Leb.{bytes_of}
 use Rattle.leb128.proofs.Published.{len}
 use Rattle.leb128.proofs.read_uleb128_len.Goals as goal
 
--- UNMAPPED enum-known-len
--- enum-known-len : tie.Need-enum-known-len
--- enum-known-len c = search rules
-
--- UNMAPPED enum-known-r
--- enum-known-r : tie.Need-enum-known-r
--- enum-known-r c = search rules
-
 pub returns-in-Number : goal.returns-in-Number
 returns-in-Number c =
     let all = len _ _ (λ i. omega (arith, c.shared_slice_known-1.given i)) _

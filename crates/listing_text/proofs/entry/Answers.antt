@@ -7,18 +7,6 @@ use Rattle.text_out.proofs.Laws.{writes_then, writes_named, text_out}
 use Rattle.listing_text.specs.Text.{mids_text, off=, idx=, mids=, entry_out}
 use Rattle.listing_text.proofs.entry.Goals as goal
 
--- UNMAPPED slice-aggregate-put-named
--- slice-aggregate-put-named : tie.Need-slice-aggregate-put-named
--- slice-aggregate-put-named c = search rules
-
--- UNMAPPED slice-aggregate-put-named-2
--- slice-aggregate-put-named-2 : tie.Need-slice-aggregate-put-named-2
--- slice-aggregate-put-named-2 c = search rules
-
--- UNMAPPED slice-aggregate-put
--- slice-aggregate-put : tie.Need-slice-aggregate-put
--- slice-aggregate-put c = search rules
-
 pub returns : goal.returns
 unfolding entry_out
 returns c =

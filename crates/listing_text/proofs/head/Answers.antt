@@ -27,14 +27,6 @@ returns-then-kind-gt4 c =
     rw (head_unknown _ a.hits (length a.out.now) (inr c.if-kind-gt4.true))
     (gives_refused _ _ _ UnknownKind refl c.clear_bytes.ensures)
 
--- UNMAPPED slice-aggregate-put
--- slice-aggregate-put : tie.Need-slice-aggregate-put
--- slice-aggregate-put c = search rules
-
--- UNMAPPED slice-aggregate-put-named
--- slice-aggregate-put-named : tie.Need-slice-aggregate-put-named
--- slice-aggregate-put-named c = search rules
-
 pub returns : goal.returns
 returns c =
     let a = c.args in

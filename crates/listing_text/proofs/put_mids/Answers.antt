@@ -5,10 +5,6 @@ use Rattle.text_out.proofs.Laws.{writes_then}
 use Rattle.listing_text.proofs.TextLaws.{mids_some, mids_none}
 use Rattle.listing_text.proofs.put_mids.Goals as goal
 
--- UNMAPPED slice-aggregate-put
--- slice-aggregate-put : tie.Need-slice-aggregate-put
--- slice-aggregate-put c = search rules
-
 pub returns-then-mids-eq0 : goal.returns-then-mids-eq0
 returns-then-mids-eq0 c =
     rw (mids_none c.args.mids.now c.if-mids-eq0.true) c.put.ensures

@@ -8,10 +8,6 @@ use Rattle.listing_text.proofs.put_rest.Goals as goal
 pub loop-i-init : goal.loop-i-init
 loop-i-init c = (omega arith, refl, rest_none _ _)
 
--- UNMAPPED slice-aggregate-put-named
--- slice-aggregate-put-named : tie.Need-slice-aggregate-put-named invariant-loop decreases-loop
--- slice-aggregate-put-named c = search rules
-
 pub overflow_cast-methods : goal.overflow_cast-methods
 overflow_cast-methods c = omega (arith, c.shared_slice_known-in-loop-i-1.given c.loop-i.i)
 

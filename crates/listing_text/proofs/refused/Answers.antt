@@ -8,10 +8,6 @@ use Rattle.listing_text.specs.Text.{refusal=, refusal_out}
 use mathlib.Core.List.{◌++◌}
 use Rattle.listing_text.proofs.refused.Goals as goal
 
--- UNMAPPED slice-aggregate-put-named
--- slice-aggregate-put-named : tie.Need-slice-aggregate-put-named
--- slice-aggregate-put-named c = search rules
-
 pub returns : goal.returns
 unfolding refusal_out
 returns c =

@@ -5,16 +5,8 @@ use Rattle.words.proofs.Shared.{met}
 use Rattle.request.proofs.Laws.{no_strings}
 use Rattle.request.proofs.header_lines.Goals as goal
 
--- UNMAPPED slice-aggregate-pair-line
--- slice-aggregate-pair-line : tie.Need-slice-aggregate-pair-line
--- slice-aggregate-pair-line c = search rules
-
 pub returns-in_default : goal.returns-in_default
 returns-in_default c = no_strings _ (met c.in_default.is c.pair_line.ensures)
-
--- UNMAPPED slice-aggregate-pair-line-2
--- slice-aggregate-pair-line-2 : tie.Need-slice-aggregate-pair-line-2
--- slice-aggregate-pair-line-2 c = search rules
 
 pub returns-in_default-pair_line : goal.returns-in_default-pair_line
 unfolding header_lines
@@ -23,10 +15,6 @@ returns-in_default-pair_line c =
       ← met c.in-At.is c.pair_line.ensures,
       ← met c.in_default-pair_line.is c.pair_line-2.ensures,
     )
-
--- UNMAPPED slice-aggregate-pair-line-3
--- slice-aggregate-pair-line-3 : tie.Need-slice-aggregate-pair-line-3
--- slice-aggregate-pair-line-3 c = search rules
 
 pub returns-in_default-pair_line-2 : goal.returns-in_default-pair_line-2
 unfolding header_lines

@@ -5,10 +5,6 @@ use Rattle.words.proofs.Shared.{met}
 use Rattle.request.proofs.Laws.{line_unnamed, line_unread, line_unended, line_done, viewed}
 use Rattle.request.proofs.index_line.Goals as goal
 
--- UNMAPPED slice-aggregate-read-word
--- slice-aggregate-read-word : tie.Need-slice-aggregate-read-word
--- slice-aggregate-read-word c = search rules
-
 pub returns-in_default : goal.returns-in_default
 returns-in_default c = line_unnamed _ _ _ _ (met c.in_default.is c.read_word.ensures)
 

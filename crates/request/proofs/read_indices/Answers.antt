@@ -13,40 +13,12 @@ use Rattle.request.proofs.read_indices.Goals as goal
 pub loop-n-init : goal.loop-n-init
 loop-n-init c = (search rules, refl, refl)
 
--- UNMAPPED enum-known-v
--- enum-known-v : tie.Need-enum-known-v invariant-loop decreases-loop
--- enum-known-v c = search rules
-
--- UNMAPPED enum_told
--- enum_told : tie.Need-enum-told invariant-loop decreases-loop
--- enum_told c = search rules
-
--- UNMAPPED same_length
--- same_length : tie.Need-same-length invariant-loop decreases-loop
--- same_length c = search rules
-
 pub returns-in_default : goal.returns-in_default
 returns-in_default c =
     let l = c.loop-n in
     let s = c.args.text.now in
     ends_without s {l = 16 - (l.n + 1)} l.i l.n l.wanted (omega arith) l.invariant.2 l.wanted
     (met c.in_default.is c.read_number.ensures)
-
--- UNMAPPED slice-aggregate-read-word
--- slice-aggregate-read-word : tie.Need-slice-aggregate-read-word invariant-loop decreases-loop
--- slice-aggregate-read-word c = search rules
-
--- UNMAPPED enum-known-q
--- enum-known-q : tie.Need-enum-known-q invariant-loop decreases-loop
--- enum-known-q c = search rules
-
--- UNMAPPED enum-told-2
--- enum-told-2 : tie.Need-enum-told-2 invariant-loop decreases-loop
--- enum-told-2 c = search rules
-
--- UNMAPPED same-length-2
--- same-length-2 : tie.Need-same-length-2 invariant-loop decreases-loop
--- same-length-2 c = search rules
 
 pub returns-in_default-read_word : goal.returns-in_default-read_word
 returns-in_default-read_word c =
@@ -67,10 +39,6 @@ loop-n-preserved c =
           (met c.in-Value.is c.read_number.ensures)
           (met c.in-At.is c.read_word.ensures),
     )
-
--- UNMAPPED same-length-3
--- same-length-3 : tie.Need-same-length-3 invariant-loop decreases-loop
--- same-length-3 c = search rules
 
 pub returns : goal.returns
 returns c =

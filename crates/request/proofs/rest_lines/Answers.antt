@@ -4,17 +4,9 @@ use Rattle.request.specs.Request.{rest_lines}
 use Rattle.words.proofs.Shared.{met}
 use Rattle.request.proofs.rest_lines.Goals as goal
 
--- UNMAPPED slice-aggregate-pair-line
--- slice-aggregate-pair-line : tie.Need-slice-aggregate-pair-line
--- slice-aggregate-pair-line c = search rules
-
 pub returns-in_default : goal.returns-in_default
 unfolding rest_lines
 returns-in_default c = rw (← met c.in_default.is c.pair_line.ensures)
-
--- UNMAPPED slice-aggregate-pair-line-2
--- slice-aggregate-pair-line-2 : tie.Need-slice-aggregate-pair-line-2
--- slice-aggregate-pair-line-2 c = search rules
 
 pub returns-in_default-pair_line : goal.returns-in_default-pair_line
 unfolding rest_lines
@@ -24,10 +16,6 @@ returns-in_default-pair_line c =
       ← met c.in_default-pair_line.is c.pair_line-2.ensures,
     )
 
--- UNMAPPED slice-aggregate-pair-line-3
--- slice-aggregate-pair-line-3 : tie.Need-slice-aggregate-pair-line-3
--- slice-aggregate-pair-line-3 c = search rules
-
 pub returns-in_default-pair_line-2 : goal.returns-in_default-pair_line-2
 unfolding rest_lines
 returns-in_default-pair_line-2 c =
@@ -36,10 +24,6 @@ returns-in_default-pair_line-2 c =
       ← met c.in-At-pair_line.is c.pair_line-2.ensures,
       ← met c.in_default-pair_line-2.is c.pair_line-3.ensures,
     )
-
--- UNMAPPED slice-aggregate-number-line
--- slice-aggregate-number-line : tie.Need-slice-aggregate-number-line
--- slice-aggregate-number-line c = search rules
 
 pub returns-in_default-number_line : goal.returns-in_default-number_line
 unfolding rest_lines

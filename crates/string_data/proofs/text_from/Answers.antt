@@ -4,14 +4,6 @@ use Rattle.string_data.proofs.Laws.{text_ends, text_open}
 use Rattle.words.proofs.Shared.{met}
 use Rattle.string_data.proofs.text_from.Goals as goal
 
--- UNMAPPED enum-known-len
--- enum-known-len : tie.Need-enum-known-len
--- enum-known-len c = search rules
-
--- UNMAPPED enum_told
--- enum_told : tie.Need-enum-told
--- enum_told c = search rules
-
 pub returns-in-After : goal.returns-in-After
 returns-in-After c = text_ends _ _ _ (met c.in-After.is c.first_zero.ensures)
 

@@ -16,14 +16,6 @@ value-requires c =
     let a = c.args in
     (omega (arith, c.digits_end-end.ensures), omega (arith, c.digits_end-end.ensures, digits_inside a.text.now a.at (omega arith)))
 
--- UNMAPPED enum-known-v
--- enum-known-v : tie.Need-enum-known-v
--- enum-known-v c = search rules
-
--- UNMAPPED enum_told
--- enum_told : tie.Need-enum-told
--- enum_told c = search rules
-
 pub returns-in_default : goal.returns-in_default
 returns-in_default c =
     number_large _ _ _ c.digits_end-end.ensures c.if-end-at.false

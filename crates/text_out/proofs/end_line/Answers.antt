@@ -4,10 +4,6 @@ use native.Mathlib.Omega.{arith}
 use Rattle.text_out.proofs.Laws.{ends_fit, ends_over}
 use Rattle.text_out.proofs.end_line.Goals as goal
 
--- UNMAPPED slice-aggregate-put
--- slice-aggregate-put : tie.Need-slice-aggregate-put
--- slice-aggregate-put c = search rules
-
 pub returns-then-out-end : goal.returns-then-out-end
 returns-then-out-end c =
     ends_over c.put-end.ensures _ (omega arith) c.clear_bytes.ensures

@@ -7,14 +7,6 @@ use Rattle.groups.proofs.slice.slice.Goals as goal
 pub returns-then-offsets-next : goal.returns-then-offsets-next
 returns-then-offsets-next c = no_key _ _ _ (omega arith)
 
--- UNMAPPED cast-a
--- cast-a : tie.Need-overflow-cast-a
--- cast-a c = omega (arith, c.shared-slice-known.given c.before.before.args.key)
-
--- UNMAPPED cast-e
--- cast-e : tie.Need-overflow-cast-e
--- cast-e c = omega (arith, c.shared-slice-known2.given (c.before.before.before.args.key + 1))
-
 pub returns-then-e-a : goal.returns-then-e-a
 returns-then-e-a c = backward _ _ _ (omega arith) (omega arith)
 

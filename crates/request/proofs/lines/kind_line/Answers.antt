@@ -5,10 +5,6 @@ use Rattle.request.specs.Lines.{ended, kind_line}
 use Rattle.words.proofs.Shared.{met}
 use Rattle.request.proofs.lines.kind_line.Goals as goal
 
--- UNMAPPED slice-aggregate-read-word
--- slice-aggregate-read-word : tie.Need-slice-aggregate-read-word
--- slice-aggregate-read-word c = search rules
-
 pub returns-in_default : goal.returns-in_default
 unfolding kind_line
 returns-in_default c = rw (← met c.in_default.is c.read_word.ensures)

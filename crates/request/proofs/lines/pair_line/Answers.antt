@@ -16,10 +16,6 @@ returns-in_default-read_number c =
       ← met c.in_default-read_number.is c.read_number.ensures,
     )
 
--- UNMAPPED slice-aggregate-number-line
--- slice-aggregate-number-line : tie.Need-slice-aggregate-number-line
--- slice-aggregate-number-line c = search rules
-
 pub returns-in_default-number_line : goal.returns-in_default-number_line
 unfolding pair_line
 returns-in_default-number_line c =

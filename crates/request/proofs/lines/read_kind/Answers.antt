@@ -4,17 +4,9 @@ use Rattle.request.specs.Lines.{kind_at}
 use Rattle.words.proofs.Shared.{met}
 use Rattle.request.proofs.lines.read_kind.Goals as goal
 
--- UNMAPPED slice-aggregate-read-word
--- slice-aggregate-read-word : tie.Need-slice-aggregate-read-word
--- slice-aggregate-read-word c = search rules
-
 pub returns-in-At : goal.returns-in-At
 unfolding kind_at
 returns-in-At c = rw (← met c.in-At.is c.read_word.ensures)
-
--- UNMAPPED slice-aggregate-read-word-2
--- slice-aggregate-read-word-2 : tie.Need-slice-aggregate-read-word-2
--- slice-aggregate-read-word-2 c = search rules
 
 pub returns-in-At-read_word : goal.returns-in-At-read_word
 unfolding kind_at
@@ -24,10 +16,6 @@ returns-in-At-read_word c =
       ← met c.in-At-read_word.is c.read_word-2.ensures,
     )
 
--- UNMAPPED slice-aggregate-read-word-3
--- slice-aggregate-read-word-3 : tie.Need-slice-aggregate-read-word-3
--- slice-aggregate-read-word-3 c = search rules
-
 pub returns-in-At-read_word-2 : goal.returns-in-At-read_word-2
 unfolding kind_at
 returns-in-At-read_word-2 c =
@@ -36,10 +24,6 @@ returns-in-At-read_word-2 c =
       ← met c.in_default-read_word.is c.read_word-2.ensures,
       ← met c.in-At-read_word-2.is c.read_word-3.ensures,
     )
-
--- UNMAPPED slice-aggregate-read-word-4
--- slice-aggregate-read-word-4 : tie.Need-slice-aggregate-read-word-4
--- slice-aggregate-read-word-4 c = search rules
 
 pub returns-in-At-read_word-3 : goal.returns-in-At-read_word-3
 unfolding kind_at
