@@ -25,7 +25,7 @@ use Rattle.code_table.specs.declared.Region.{Region}
 use Rattle.code_table.specs.declared.Built.{Built}
 use Rattle.code_table.specs.declared.Built.TheVariants as b
 use Rattle.code_table.proofs.Named.{starts_length}
-use Rattle.code_item_scan.specs.Scan.{Hit, offs, marks, asked}
+use Rattle.code_item_scan.specs.Scan.{Hit, asked}
 use Rattle.code_item_scan.specs.Answers.{hit_room_of}
 use Rattle.insn_locator.specs.Answers.{tables}
 use Rattle.completeness.specs.Completeness.{FindWords, find_words}

@@ -5,7 +5,6 @@ use Rattle.entry_lines.proofs.LineLaws.{unlike, likewise, gives_as, gives_room, 
 use Rattle.entry_lines.proofs.LineLaws.{tried_alike, tries_refused, tries_done}
 use mathlib.Core.Bool.{not}
 use mathlib.Core.Path.{ap, refl, sym, ◌∙◌}
-use Prim.Native.Nat.{◌-◌}
 use lib.ListN.{length}
 use borrow.Author.Rules.{rules}
 use native.Mathlib.Omega.{arith}

@@ -3,7 +3,6 @@ use Rattle.insn_locator.specs.Answers.{tables}
 use Rattle.insn_locator.specs.Steps.{word_of}
 use lib.ListN.{length-set}
 use mathlib.Core.Path.{refl, sym, ap, ◌∙◌}
-use Prim.Native.Nat.{◌-◌}
 use borrow.Author.Rules.{rules}
 use native.Mathlib.Omega.{arith}
 use Rattle.insn_locator.proofs.locate_list.Goals as goal

@@ -1,4 +1,3 @@
-use Prim.Native.Nat.{◌-◌}
 use mathlib.Core.Path.{refl, ◌∙◌}
 use Rattle.insn_locator.proofs.Climbing.{climbs_end, climbs-falls, climbs-again}
 use borrow.Author.Rules.{rules}

@@ -2,7 +2,6 @@ use Rattle.method_search.proofs.Fitting.{from_start, recount, turn, no_room, non
 use Rattle.word_set.proofs.Collected.{collect_start, collect_end, held_length}
 use Rattle.word_set.specs.Steps.{all, over}
 use mathlib.Core.Path.{refl}
-use Prim.Native.Nat.{◌-◌}
 use borrow.Author.Rules.{rules}
 use native.Mathlib.Omega.{arith}
 use Rattle.method_search.proofs.collect.Goals as goal

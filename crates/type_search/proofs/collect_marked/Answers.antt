@@ -1,5 +1,4 @@
 use borrow.Author.Rules.{rules}
-use Prim.Native.Nat.{◌-◌}
 use mathlib.Core.Path.{refl}
 use Rattle.word_set.specs.Steps.{over}
 use Rattle.index_set.proofs.Marking.{mark_start, mark_length, mark_end}
