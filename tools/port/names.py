@@ -12,16 +12,18 @@ import sys
 
 KIT = "/opt/rattle/rattle"
 TOKEN = re.compile(r"[A-Za-z_\u0370-\u03ff][\w'\u2080-\u2089\u2032?!\u2262\u2261\u2264-]*", re.U)
-HEAD = re.compile(r"^(?: {0,2})((?:(?:abbrev|unfoldable|opaque|pub|rec)\s+)*)([a-z][\w'\u2080-\u2089?-]*)\s*(?:\{[^{}]*\}\s*|\([^()]*\)\s*)*:(?!:)", re.U)
+HEAD = re.compile(r"^ *((?:(?:abbrev|unfoldable|opaque|pub|rec)\s+)*)([a-z][\w'\u2080-\u2089?-]*)\s*(?:\{[^{}]*\}\s*|\([^()]*\)\s*)*:(?!:)", re.U)
 # names that would fall together with another of their file, or with a crate's
 OTHERS = {
-    "twoAt": "two_at", "two_at": "two_read", "passedOn": "handed_on", "all-bytes": "are_bytes", "with-bit": "with_bit_of", "all-alone": "locates_alone",
+    "twoAt": "two_at", "sizes-at": "sizes_read", "methods-at": "methods_read", "passedOn": "handed_on", "all-bytes": "are_bytes", "with-bit": "with_bit_of", "all-alone": "locates_alone",
     "clz-count": "clz_counted", "name-count": "name_counted", "key-of": "key_found", "textOut": "text_outcome", "tooLarge": "is_too_large",
     "indexSet": "index_set_of", "typeIds": "type_ids", "type-ids": "type_groups_ids", "start-words": "two_start_words",
     "is-hit": "hit_is", "whole-build": "build_whole", "first-bucket": "bucket_first", "found-hits": "hits_found", "confirmed-from": "from_confirmed",
     "first-of": "first_of_list", "alone-out": "out_alone", "units-by": "units_told", "first-zero": "zero_first", "search-fault": "search_faults",
     "first-fault": "first_faults", "filter-fault": "filter_faults", "method-fault": "method_faults", "string-text": "text_of_string",
 }
+# files of one function's proof
+MADE = ("Proof.antt", "Answers.antt", "Invariants.antt")
 NOT_HEADS = {"use", "module", "let", "in", "record", "data", "where", "unfolding", "elim", "rw", "case"}
 
 
@@ -53,15 +55,24 @@ def heads(text):
             yield m.group(2)
 
 
-def turn(text, names):
-    return TOKEN.sub(lambda m: names.get(m.group(0), m.group(0)), text)
+def turn(text, names, made=False):
+    """made: a file of answers, where what follows a dot, and each goal, has a name that Rattle made."""
+    goals = set(re.findall(r"^(?:abbrev )?pub (\S+) : goal\.", text, re.M)) if made else ()
+
+    def new(m):
+        word = m.group(0)
+        if made and (word in goals or text[m.start() - 1 : m.start()] == "."):
+            return word
+        return names.get(word, word)
+
+    return TOKEN.sub(new, text)
 
 
 def main():
     root = os.path.abspath(sys.argv[1]) if len(sys.argv) > 1 else os.path.dirname(os.path.dirname(os.path.dirname(os.path.abspath(__file__))))
     own, where = set(), {}
     for p in files(root, ("specs", "proofs"), ".antt"):
-        if os.path.basename(p) == "Proof.antt":
+        if os.path.basename(p) in MADE:
             continue
         for h in heads(read(p)):
             own.add(h)
@@ -73,6 +84,8 @@ def main():
                 kit.update(h for h in heads(read(os.path.join(d, n))))
     names = {h: snake(h) for h in own if snake(h) != h and not h.startswith("_")}
     names |= OTHERS
+    if "twoAt" in own:
+        names["two_at"] = "two_read"
     both = sorted(h for h in names if h in kit)
     clash = []
     for p in files(root, ("specs", "proofs"), ".antt"):
@@ -89,7 +102,7 @@ def main():
         return 2 if clash else 0
     for p in list(files(root, ("specs", "proofs"), ".antt")) + list(files(root, ("must-fail",), ".edit")):
         old = read(p)
-        new = turn(old, names)
+        new = turn(old, names, os.path.basename(p) in MADE)
         if new != old:
             with open(p, "w", encoding="utf-8") as f:
                 f.write(new)

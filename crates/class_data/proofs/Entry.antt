@@ -25,13 +25,13 @@ module _ (s : List ℕ) (i : ℕ) where
   map_zero z = rw (eq-eqb _ _ z)
 
   module _ (z : i ≡ 0 → ⊥) where
-    pub map-outside : length s < i + 4 → place o.Nowhere ≡ map_entry s i
+    pub map_outside : length s < i + 4 → place o.Nowhere ≡ map_entry s i
     unfolding place map_entry
-    map-outside q = rw (ne_eqb _ _ z, lt-ltb _ _ q)
+    map_outside q = rw (ne_eqb _ _ z, lt-ltb _ _ q)
 
-    pub map-inside : {n : ℕ} → Word s i n 4 (le32 s i) → entry_from n s (i + 4) ≡ map_entry s i
+    pub map_inside : {n : ℕ} → Word s i n 4 (le32 s i) → entry_from n s (i + 4) ≡ map_entry s i
     unfolding map_entry
-    map-inside x = rw (ne_eqb _ _ z, le-ltb _ _ x.inside, ← x.is)
+    map_inside x = rw (ne_eqb _ _ z, le-ltb _ _ x.inside, ← x.is)
 
 module _ (s : List ℕ) (i : ℕ) {d : Option ℕ} where
   pub entry_past : (n : ℕ) → length s < i + 12 → entry_from n s i ≡ d → place o.Nowhere ≡ d
@@ -45,15 +45,15 @@ module _ (s : List ℕ) (i : ℕ) {d : Option ℕ} where
   entry_end (suc n) z h = absurd (omega arith)
 
   module _ (q : i + 12 ≤ length s) {v : ℕ} (x : Word s i v 2 (le16 s i)) where
-    pub entry-this : (n : ℕ) → 0 < n → v ≡ 8192 → entry_from n s i ≡ d → place (o.At i) ≡ d
+    pub entry_this : (n : ℕ) → 0 < n → v ≡ 8192 → entry_from n s i ≡ d → place (o.At i) ≡ d
     unfolding place entry_from
-    entry-this zero z t h = absurd (omega arith)
-    entry-this (suc n) z t h = rw (le-leb _ _ q, ← x.is, eq-eqb _ _ t) at h
+    entry_this zero z t h = absurd (omega arith)
+    entry_this (suc n) z t h = rw (le-leb _ _ q, ← x.is, eq-eqb _ _ t) at h
 
-    pub entry-again : (n : ℕ) → 0 < n → (v ≡ 8192 → ⊥) → entry_from n s i ≡ d → entry_from (n - 1) s (i + 12) ≡ d
+    pub entry_again : (n : ℕ) → 0 < n → (v ≡ 8192 → ⊥) → entry_from n s i ≡ d → entry_from (n - 1) s (i + 12) ≡ d
     unfolding entry_from
-    entry-again zero z t h = absurd (omega arith)
-    entry-again (suc n) z t h = rw sub-one (rw (le-leb _ _ q, ← x.is, ne_eqb _ _ t) at h)
+    entry_again zero z t h = absurd (omega arith)
+    entry_again (suc n) z t h = rw sub-one (rw (le-leb _ _ q, ← x.is, ne_eqb _ _ t) at h)
 
 pub record Searching (s : List ℕ) (mapoff n at left : ℕ) : Type 0 where
   pub rest : entry_from left s at ≡ map_entry s mapoff

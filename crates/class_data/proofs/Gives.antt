@@ -63,29 +63,29 @@ module _ (s : List ℕ) (h : DexHeader) (lent : CodeWords) where
   codes_large a = rw a
 
   module _ (a : is_too_large (length s) ≡ false) where
-    pub codes-short : pair_count lent.starts < h.methods.size → refused LentTooShort ≡ codes_for s h lent
+    pub codes_short : pair_count lent.starts < h.methods.size → refused LentTooShort ≡ codes_for s h lent
     unfolding codes_in
-    codes-short b = rw (a, lt-leb _ _ b)
+    codes_short b = rw (a, lt-leb _ _ b)
 
     module _ (b : h.methods.size ≤ pair_count lent.starts) where
-      pub codes-no : {r : Refusal} (x : Kept) → refusal r ≡ stored x (codes_of s h) → refused r ≡ codes_for s h lent
+      pub codes_no : {r : Refusal} (x : Kept) → refusal r ≡ stored x (codes_of s h) → refused r ≡ codes_for s h lent
       unfolding codes_in
-      codes-no {r} x e = rw (a, le-leb _ _ b, ← stored_refused x (codes_of s h) r e)
+      codes_no {r} x e = rw (a, le-leb _ _ b, ← stored_refused x (codes_of s h) r e)
 
-      codes-full : {cs : List Code} {i : ℕ} → found cs i ≡ codes_of s h → length lent.triples < 3 * length cs
+      codes_full : {cs : List Code} {i : ℕ} → found cs i ≡ codes_of s h → length lent.triples < 3 * length cs
           → refused LentTooShort ≡ codes_for s h lent
       unfolding codes_in
-      codes-full e q = rw (a, le-leb _ _ b, ← e, lt-leb _ _ q)
+      codes_full e q = rw (a, le-leb _ _ b, ← e, lt-leb _ _ q)
 
-      codes-fits : {cs : List Code} {i : ℕ} → found cs i ≡ codes_of s h → 3 * length cs ≤ length lent.triples → found cs i ≡ codes_for s h lent
+      codes_fits : {cs : List Code} {i : ℕ} → found cs i ≡ codes_of s h → 3 * length cs ≤ length lent.triples → found cs i ≡ codes_for s h lent
       unfolding codes_in
-      codes-fits e q = rw (a, le-leb _ _ b, ← e, le-leb _ _ q)
+      codes_fits e q = rw (a, le-leb _ _ b, ← e, le-leb _ _ q)
 
       module _ (cleared : CodeWords) {i : ℕ} {y : Kept} (e : left i y ≡ stored (kept 0 cleared) (codes_of s h)) where
-        pub codes-over : length lent.triples / 3 < y.count → refused LentTooShort ≡ codes_for s h lent
-        codes-over q =
+        pub codes_over : length lent.triples / 3 < y.count → refused LentTooShort ≡ codes_for s h lent
+        codes_over q =
             let x = left_by (kept 0 cleared) (codes_of s h) i y e in
-            codes-full x.walk (omega (arith, x.count))
+            codes_full x.walk (omega (arith, x.count))
 
         pub fit_all : Cleared lent cleared → y.count ≤ length lent.triples / 3
             → FitCodes h.methods.size (codes_for s h lent) (Done y.count) lent y.words
@@ -96,7 +96,7 @@ module _ (s : List ℕ) (h : DexHeader) (lent : CodeWords) where
             let m : ℕ = h.methods.size in
             let k : y.count ≡ length cs = omega (arith, x.count) in
             let o : 3 * length cs ≤ length lent.triples = omega arith in
-            subst (λ (v : Walk). GivesCodes m v (Done y.count) lent y.words) (codes-fits x.walk o)
+            subst (λ (v : Walk). GivesCodes m v (Done y.count) lent y.words) (codes_fits x.walk o)
             (record {
               answer = ap Done k;
               triples =
@@ -125,9 +125,9 @@ module _ (m : ℕ) (v : Walk) (before after : CodeWords) where
   fit_refused e = e
 
   module _ (a : Answer) (q : FitCodes m v a before after) where
-    pub done-told : {n : ℕ} → a ≡ Done n → GivesCodes m v (Done n) before after
+    pub done_told : {n : ℕ} → a ≡ Done n → GivesCodes m v (Done n) before after
     unfolding FitCodes
-    done-told e = subst (λ (x : Answer). FitCodes m v x before after) e q
+    done_told e = subst (λ (x : Answer). FitCodes m v x before after) e q
 
     pub refused_told : {r : Refusal} → a ≡ Refused r → refused r ≡ v
     unfolding FitCodes

@@ -80,30 +80,30 @@ module _ (s : List ℕ) (m i : ℕ) (x : Kept) where
       λ n. rw (lt-leb _ _ p)
 
   module _ {v : ℕ} (word : Word s (i + 24) v 4 (le32 s (i + 24))) where
-    abbrev def-fits : i + 28 ≤ length s
-    def-fits = omega (arith, word.inside)
+    abbrev def_fits : i + 28 ≤ length s
+    def_fits = omega (arith, word.inside)
 
-    def-skips : v ≡ 0 → (n : ℕ) → defined n s m (i + 32) ≡ defined (suc n) s m i
+    def_skips : v ≡ 0 → (n : ℕ) → defined n s m (i + 32) ≡ defined (suc n) s m i
     unfolding defined
-    def-skips z n = rw (le-leb _ _ def-fits, ← word.is, eq-eqb _ _ z)
+    def_skips z n = rw (le-leb _ _ def_fits, ← word.is, eq-eqb _ _ z)
 
-    def-walks : (v ≡ 0 → ⊥) → (n : ℕ) → and_on (class_data_at s m v) (λ e. defined n s m (i + 32)) ≡ defined (suc n) s m i
+    def_walks : (v ≡ 0 → ⊥) → (n : ℕ) → and_on (class_data_at s m v) (λ e. defined n s m (i + 32)) ≡ defined (suc n) s m i
     unfolding defined
-    def-walks z n = rw (le-leb _ _ def-fits, ← word.is, ne_eqb _ _ z)
+    def_walks z n = rw (le-leb _ _ def_fits, ← word.is, ne_eqb _ _ z)
 
     pub def_none : (e : ℕ) → v ≡ 0 → OneDefined s m i x (w.Found e x.count) x.words
     unfolding OneDefined
-    def_none e z = record { rest = λ n. ap (stored x) (def-skips z n); few = omega arith }
+    def_none e z = record { rest = λ n. ap (stored x) (def_skips z n); few = omega arith }
 
-    pub def-some : (r : Walked) (after : CodeWords) → (v ≡ 0 → ⊥) → seen r after ≡ stored x (class_data_at s m v) → OneDefined s m i x r after
+    pub def_some : (r : Walked) (after : CodeWords) → (v ≡ 0 → ⊥) → seen r after ≡ stored x (class_data_at s m v) → OneDefined s m i x r after
     unfolding OneDefined seen
-    def-some (w.Found e k) after z h =
+    def_some (w.Found e k) after z h =
         record {
-          rest = λ n. stored_on x (class_data_at s m v) (λ a. defined n s m (i + 32)) e (kept k after) h ∙ ap (stored x) (def-walks z n);
+          rest = λ n. stored_on x (class_data_at s m v) (λ a. defined n s m (i + 32)) e (kept k after) h ∙ ap (stored x) (def_walks z n);
           few = class_few s m v x h;
         }
-    def-some (w.Refused y) after z h =
-        λ n. ap (λ (a : Walk). and_on a (λ e. defined n s m (i + 32))) (stored_refused x (class_data_at s m v) y h) ∙ def-walks z n
+    def_some (w.Refused y) after z h =
+        λ n. ap (λ (a : Walk). and_on a (λ e. defined n s m (i + 32))) (stored_refused x (class_data_at s m v) y h) ∙ def_walks z n
 
 module _ (s : List ℕ) (m i : ℕ) (x : Kept) (r : Walked) (after : CodeWords) (q : OneDefined s m i x r after) where
   pub def_told : {e k : ℕ} → r ≡ w.Found e k → DefinedOn s m i x (kept k after)

@@ -67,9 +67,9 @@ module _ (s : List ℕ) (i : ℕ) where
   two_no1 e = rw (← e)
 
   module _ {x a : ℕ} (e1 : u.Number x a ≡ uleb_fast s i) where
-    pub two-no2 : {y : Refusal} → u.Refused y ≡ uleb_fast s (i + a) → n.Refused y ≡ two_at s i
+    pub two_no2 : {y : Refusal} → u.Refused y ≡ uleb_fast s (i + a) → n.Refused y ≡ two_at s i
     unfolding two_at
-    two-no2 e = rw (← e1, ← e)
+    two_no2 e = rw (← e1, ← e)
 
     pub two_read : {y b : ℕ} → u.Number y b ≡ uleb_fast s (i + a) → n.At x y (i + a + b) ≡ two_at s i
     unfolding two_at
@@ -80,13 +80,13 @@ module _ (s : List ℕ) (i : ℕ) where
   sizes_no1 e = rw (← e)
 
   module _ {x y p : ℕ} (e1 : n.At x y p ≡ two_at s i) where
-    pub sizes-no2 : {y : Refusal} → n.Refused y ≡ two_at s p → z.Refused y ≡ sizes_at s i
+    pub sizes_no2 : {y : Refusal} → n.Refused y ≡ two_at s p → z.Refused y ≡ sizes_at s i
     unfolding sizes_at
-    sizes-no2 e = rw (← e1, ← e)
+    sizes_no2 e = rw (← e1, ← e)
 
-    pub sizes-at : {d v q : ℕ} → n.At d v q ≡ two_at s p → z.At (2 * ((x + y) % word)) d v q ≡ sizes_at s i
+    pub sizes_read : {d v q : ℕ} → n.At d v q ≡ two_at s p → z.At (2 * ((x + y) % word)) d v q ≡ sizes_at s i
     unfolding sizes_at
-    sizes-at e2 = rw (← e1, ← e2)
+    sizes_read e2 = rw (← e1, ← e2)
 
 -- ---- the numbers of a method
 module _ (s : List ℕ) (i m : ℕ) where
@@ -95,19 +95,19 @@ module _ (s : List ℕ) (i m : ℕ) where
   head_no1 e = λ methods n. rw (← e)
 
   module _ {d a : ℕ} (e1 : u.Number d a ≡ uleb_fast s i) where
-    pub head-index : word ≤ m + d → HeadRead s i m (h.Refused MethodIndex)
+    pub head_index : word ≤ m + d → HeadRead s i m (h.Refused MethodIndex)
     unfolding methods_from HeadRead
-    head-index q = λ methods n. rw (← e1, le-ltb _ _ q)
+    head_index q = λ methods n. rw (← e1, le-ltb _ _ q)
 
     module _ (q : m + d < word) where
-      pub head-no2 : {y : Refusal} → u.Refused y ≡ uleb_fast s (i + a) → HeadRead s i m (h.Refused y)
+      pub head_no2 : {y : Refusal} → u.Refused y ≡ uleb_fast s (i + a) → HeadRead s i m (h.Refused y)
       unfolding methods_from HeadRead
-      head-no2 e = λ methods n. rw (← e1, lt-ltb _ _ q, ← e)
+      head_no2 e = λ methods n. rw (← e1, lt-ltb _ _ q, ← e)
 
       module _ {x b : ℕ} (e2 : u.Number x b ≡ uleb_fast s (i + a)) where
-        pub head-no3 : {y : Refusal} → u.Refused y ≡ uleb_fast s (i + a + b) → HeadRead s i m (h.Refused y)
+        pub head_no3 : {y : Refusal} → u.Refused y ≡ uleb_fast s (i + a + b) → HeadRead s i m (h.Refused y)
         unfolding methods_from HeadRead
-        head-no3 e = λ methods n. rw (← e1, lt-ltb _ _ q, ← e2, ← e)
+        head_no3 e = λ methods n. rw (← e1, lt-ltb _ _ q, ← e2, ← e)
 
         pub head_at : {v c : ℕ} → u.Number v c ≡ uleb_fast s (i + a + b)
             → HeadRead s i m (h.At (i + a + b + c) (m + d) v)
@@ -139,23 +139,23 @@ module _ (s : List ℕ) (c : ℕ) where
     abbrev fits : c + 16 ≤ length s
     fits = omega arith
 
-    pub item-empty : n ≡ 0 → t.Outside ≡ item_at s c
+    pub item_empty : n ≡ 0 → t.Outside ≡ item_at s c
     unfolding item_at
-    item-empty z =
+    item_empty z =
         let y : n ≤ 0 = omega arith in
         rw (le-leb _ _ fits, ← e, le-ltb 0 n y)
 
     module _ (z : n ≡ 0 → ⊥) where
-      abbrev some-unit : 0 < n
-      some-unit = omega (arith, z)
+      abbrev some_unit : 0 < n
+      some_unit = omega (arith, z)
 
-      pub item-past : length s < c + 16 + 2 * n → t.Outside ≡ item_at s c
+      pub item_past : length s < c + 16 + 2 * n → t.Outside ≡ item_at s c
       unfolding item_at
-      item-past p = rw (le-leb _ _ fits, ← e, lt-ltb 0 n some-unit, lt-leb _ _ p)
+      item_past p = rw (le-leb _ _ fits, ← e, lt-ltb 0 n some_unit, lt-leb _ _ p)
 
-      pub item-units : c + 16 + 2 * n ≤ length s → t.Units n ≡ item_at s c
+      pub item_units : c + 16 + 2 * n ≤ length s → t.Units n ≡ item_at s c
       unfolding item_at
-      item-units p = rw (le-leb _ _ fits, ← e, lt-ltb 0 n some-unit, le-leb _ _ p)
+      item_units p = rw (le-leb _ _ fits, ← e, lt-ltb 0 n some_unit, le-leb _ _ p)
 
 item_none : (b : Bool) (x : ℕ) → t.Outside ≡ cond b (t.Units x) t.Outside → b ≡ false
 item_none true x e = absurd (let q : ◌≡◌ {A = ℕ} 0 1 = cc in omega arith)

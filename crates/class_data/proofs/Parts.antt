@@ -26,13 +26,13 @@ module _ (s : List ℕ) (i : ℕ) where
   methods_no1 e = rw (← e)
 
   module _ {n a v p : ℕ} (e : z.At n a v p ≡ sizes_at s i) where
-    pub methods-no2 : {y : Refusal} → k.Refused y ≡ skipped n s p → m.Refused y ≡ methods_at s i
+    pub methods_no2 : {y : Refusal} → k.Refused y ≡ skipped n s p → m.Refused y ≡ methods_at s i
     unfolding methods_at
-    methods-no2 q = rw (← e, ← q)
+    methods_no2 q = rw (← e, ← q)
 
-    pub methods-at : {o : ℕ} → k.To o ≡ skipped n s p → m.At a v o ≡ methods_at s i
+    pub methods_read : {o : ℕ} → k.To o ≡ skipped n s p → m.At a v o ≡ methods_at s i
     unfolding methods_at
-    methods-at q = rw (← e, ← q)
+    methods_read q = rw (← e, ← q)
 
 -- the item is walked from its first method on
 module _ (s : List ℕ) (methods i : ℕ) where
@@ -51,16 +51,16 @@ module _ (s : List ℕ) (methods j c : ℕ) (rest : Walk) where
   with_none q = rw (eq-eqb _ _ q)
 
   module _ (q : c ≡ 0 → ⊥) where
-    with-index : methods ≤ j → refused MethodIndex ≡ with_method s methods j c rest
-    with-index a = rw (ne_eqb _ _ q, le-ltb _ _ a)
+    with_index : methods ≤ j → refused MethodIndex ≡ with_method s methods j c rest
+    with_index a = rw (ne_eqb _ _ q, le-ltb _ _ a)
 
     module _ (a : j < methods) where
-      with-large : most_methods ≤ j → refused MethodIndex ≡ with_method s methods j c rest
-      with-large b = rw (ne_eqb _ _ q, lt-ltb _ _ a, le-ltb _ _ b)
+      with_large : most_methods ≤ j → refused MethodIndex ≡ with_method s methods j c rest
+      with_large b = rw (ne_eqb _ _ q, lt-ltb _ _ a, le-ltb _ _ b)
 
       module _ (b : j < most_methods) where
-        with-outside : code_inside s c ≡ false → refused CodeOutside ≡ with_method s methods j c rest
-        with-outside d = rw (ne_eqb _ _ q, lt-ltb _ _ a, lt-ltb _ _ b, d)
+        with_outside : code_inside s c ≡ false → refused CodeOutside ≡ with_method s methods j c rest
+        with_outside d = rw (ne_eqb _ _ q, lt-ltb _ _ a, lt-ltb _ _ b, d)
 
         with_code : code_inside s c ≡ true → following (code_at s j c ∷ []) rest ≡ with_method s methods j c rest
         with_code d = rw (ne_eqb _ _ q, lt-ltb _ _ a, lt-ltb _ _ b, d)
@@ -82,21 +82,21 @@ module _ (methods : ℕ) {s : List ℕ} {i m p j c : ℕ} (q : HeadAt s i m p j 
   module _ (z : c ≡ 0 → ⊥) where
     pub method_index : methods ≤ j → MethodRead s methods i m (d.Refused MethodIndex)
     unfolding MethodRead
-    method_index x = λ n. with-index s methods j c (more n) z x ∙ q.rest methods n
+    method_index x = λ n. with_index s methods j c (more n) z x ∙ q.rest methods n
 
     module _ (x : j < methods) where
-      pub method-large : most_methods ≤ j → MethodRead s methods i m (d.Refused MethodIndex)
+      pub method_large : most_methods ≤ j → MethodRead s methods i m (d.Refused MethodIndex)
       unfolding MethodRead
-      method-large y = λ n. with-large s methods j c (more n) z x y ∙ q.rest methods n
+      method_large y = λ n. with_large s methods j c (more n) z x y ∙ q.rest methods n
 
       module _ (y : j < most_methods) where
-        pub method-outside : t.Outside ≡ item_at s c → MethodRead s methods i m (d.Refused CodeOutside)
+        pub method_outside : t.Outside ≡ item_at s c → MethodRead s methods i m (d.Refused CodeOutside)
         unfolding MethodRead
-        method-outside e = λ n. with-outside s methods j c (more n) z x y (item_out s c e) ∙ q.rest methods n
+        method_outside e = λ n. with_outside s methods j c (more n) z x y (item_out s c e) ∙ q.rest methods n
 
-        pub method-coded : {u : ℕ} → t.Units u ≡ item_at s c → MethodRead s methods i m (d.Coded p j c u)
+        pub method_coded : {u : ℕ} → t.Units u ≡ item_at s c → MethodRead s methods i m (d.Coded p j c u)
         unfolding MethodRead
-        method-coded {u} e =
+        method_coded {u} e =
             let v = item_in s c u e in
             let f = item_facts s c u e in
             record {

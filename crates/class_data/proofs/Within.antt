@@ -114,11 +114,11 @@ pub class_any : (s : List ℕ) (methods i : ℕ) (P : Walk → Type 0) → ((r :
     → ((a v p : ℕ) → P (and_on (methods_from a s methods p 0) (λ f. methods_from v s methods f 0)))
     → P (class_data_at s methods i)
 unfolding class_data_at
-class_any s methods i P x g = by-item (methods_at s i) (methods_keeps s i)
+class_any s methods i P x g = by_item (methods_at s i) (methods_keeps s i)
   where
-    by-item : (r : Methods) → MethodsR s r → P (on_methods r (λ a v p. and_on (methods_from a s methods p 0) (λ f. methods_from v s methods f 0)))
-    by-item (ms.At a v p) h = g a v p
-    by-item (ms.Refused y) h = x y h
+    by_item : (r : Methods) → MethodsR s r → P (on_methods r (λ a v p. and_on (methods_from a s methods p 0) (λ f. methods_from v s methods f 0)))
+    by_item (ms.At a v p) h = g a v p
+    by_item (ms.Refused y) h = x y h
 
 -- ---- a walk from i over bytes of the file finds at most a code for each byte
 pub record Within (s : List ℕ) (m i : ℕ) (cs : List Code) (e : ℕ) : Type 0 where

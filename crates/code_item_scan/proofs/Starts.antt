@@ -3,8 +3,8 @@
 --     named       named_other, named_short, named_unwanted, named_wanted, named_even
 --     hits_by     no_hits, hits_alike
 --     Came        came_on, came_found, came_end, came_skipped, string_miss, string_found
---     Passed      passed_skipped, passed_on, passed-found, passed-end
---     Tells       tells_backward, tells_string, tells-short, tells-even
+--     Passed      passed_skipped, passed_on, passed_found, passed_end
+--     Tells       tells_backward, tells_string, tells_short, tells_even
 -- Assumes nothing.
 use mathlib.Core.Path.{◌≡◌, refl, ap, sym, ◌∙◌, subst}
 use mathlib.Core.Bool.{Bool, true, false, ◌&&◌, cond}
@@ -366,12 +366,12 @@ module _ (s : List ℕ) (kind : Kind) (table : List ℕ) (to p : ℕ) (k : is_st
   passed_skipped r g = record { onward = g.onward; inside = g.inside; same = λ wants t. g.same kind wants k t }
 
   module _ (r : ℕ) (g : Passed s kind table to p r) where
-    pub passed-end : to < r + 4 → FindsEven s kind table p to Nothing
-    passed-end h wants t = finds_nothing (g.same wants t ∙ no_hits s kind wants r to h)
+    pub passed_end : to < r + 4 → FindsEven s kind table p to Nothing
+    passed_end h wants t = finds_nothing (g.same wants t ∙ no_hits s kind wants r to h)
 
     module _ (h : r + 4 ≤ to) where
-      pub passed-found : (x : ℕ) → EvenHit s kind table r (some x) → FindsEven s kind table p to (At r x (r + 2))
-      passed-found x e wants t =
+      pub passed_found : (x : ℕ) → EvenHit s kind table r (some x) → FindsEven s kind table p to (At r x (r + 2))
+      passed_found x e wants t =
           let f : FirstHit s (sought kind wants r to) r x (r + 2) = even_found s kind wants to r k h x (e.is wants to t h) in
           finds_hit (record { hits = g.same wants t ∙ f.hits; onward = g.onward; passed = f.passed; inside = f.inside })
 
@@ -435,13 +435,13 @@ module _ (s : List ℕ) (W : IndexSet) (kind : Kind) (from to to' : ℕ) (cut : 
       (subst (λ (j : Kind). Finds s (sought j (listed W) from to) r) (sym (strings_only kind k)) f))
 
   module _ (k : is_strings kind ≡ false) where
-    pub tells-short : length W.table < index_count → ((i : ℕ) → byte s i < 256) → (wants : ℕ → Bool) → Tells W kind wants
+    pub tells_short : length W.table < index_count → ((i : ℕ) → byte s i < 256) → (wants : ℕ → Bool) → Tells W kind wants
         → Finds s (sought kind wants from to') Nothing
-    tells-short h bytes wants t =
+    tells_short h bytes wants t =
         finds_nothing
         (none_hit s kind wants from to' k bytes (λ x l. sym (tells_table W kind wants t k x l) ∙ rw (lt-leb index_count (length W.table) h)))
 
-    pub tells-even : {r : Found} → FindsEven s kind W.table from to r → (wants : ℕ → Bool) → Tells W kind wants
+    pub tells_even : {r : Found} → FindsEven s kind W.table from to r → (wants : ℕ → Bool) → Tells W kind wants
         → Finds s (sought kind wants from to') r
-    tells-even {r = r} f wants t =
+    tells_even {r = r} f wants t =
         subst (λ (n : ℕ). Finds s (sought kind wants from n) r) cut (f wants (tells_table W kind wants t k))

@@ -31,21 +31,21 @@ use Rattle.code_item_scan.specs.Steps.{Admitted, large, unknown, backward, past_
 
 module _ (s : List ℕ) (A : S.Asked) {r : Admission} where
   module _ (known : Kind) (e : r ≡ Scan known) where
-    pub admitted-region : Admitted (length s) A.from A.to A.kind r → Region s A.from A.to
-    admitted-region (large f l) = let z : ◌≡◌ {A = ℕ} 0 1 = cc in absurd (omega arith)
-    admitted-region (unknown f l k) = let z : ◌≡◌ {A = ℕ} 0 1 = cc in absurd (omega arith)
-    admitted-region (backward k f l i h) = let z : ◌≡◌ {A = ℕ} 0 1 = cc in absurd (omega arith)
-    admitted-region (past_end k f l i g h) = let z : ◌≡◌ {A = ℕ} 0 1 = cc in absurd (omega arith)
-    admitted-region (scan k f l i g h) = record { forward = g; inside = h; small = ltb-false largest_file (length s) l }
+    pub admitted_region : Admitted (length s) A.from A.to A.kind r → Region s A.from A.to
+    admitted_region (large f l) = let z : ◌≡◌ {A = ℕ} 0 1 = cc in absurd (omega arith)
+    admitted_region (unknown f l k) = let z : ◌≡◌ {A = ℕ} 0 1 = cc in absurd (omega arith)
+    admitted_region (backward k f l i h) = let z : ◌≡◌ {A = ℕ} 0 1 = cc in absurd (omega arith)
+    admitted_region (past_end k f l i g h) = let z : ◌≡◌ {A = ℕ} 0 1 = cc in absurd (omega arith)
+    admitted_region (scan k f l i g h) = record { forward = g; inside = h; small = ltb-false largest_file (length s) l }
 
-    pub admitted-scan : (R : S.HitRoom) → Admitted (length s) A.from A.to A.kind r
+    pub admitted_scan : (R : S.HitRoom) → Admitted (length s) A.from A.to A.kind r
         → S.scan_out s A R ≡ S.scanned R (S.hits_of s (meant known) A.wanted A.from A.to)
     unfolding S.scan_out
-    admitted-scan R (large f l) = let z : ◌≡◌ {A = ℕ} 0 1 = cc in absurd (omega arith)
-    admitted-scan R (unknown f l k) = let z : ◌≡◌ {A = ℕ} 0 1 = cc in absurd (omega arith)
-    admitted-scan R (backward k f l i h) = let z : ◌≡◌ {A = ℕ} 0 1 = cc in absurd (omega arith)
-    admitted-scan R (past_end k f l i g h) = let z : ◌≡◌ {A = ℕ} 0 1 = cc in absurd (omega arith)
-    admitted-scan R (scan k f l i g h) =
+    admitted_scan R (large f l) = let z : ◌≡◌ {A = ℕ} 0 1 = cc in absurd (omega arith)
+    admitted_scan R (unknown f l k) = let z : ◌≡◌ {A = ℕ} 0 1 = cc in absurd (omega arith)
+    admitted_scan R (backward k f l i h) = let z : ◌≡◌ {A = ℕ} 0 1 = cc in absurd (omega arith)
+    admitted_scan R (past_end k f l i g h) = let z : ◌≡◌ {A = ℕ} 0 1 = cc in absurd (omega arith)
+    admitted_scan R (scan k f l i g h) =
         let d : k ≡ known = cc in
         simp (l, i, le-leb A.from A.to g, le-leb A.to (length s) h)
         (ap (λ (j : Kind). S.scanned R (S.hits_of s (meant j) A.wanted A.from A.to)) d)

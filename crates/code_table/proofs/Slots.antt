@@ -2,7 +2,7 @@
 -- so the lent words that hold it hold the next one after one stretch is filled and one share put after the others.
 --     first_word, last_word, method_word    the three words of code i
 --     lowest_step, top_step                 one code more
---     held_free, held_share, held-over      a code placed in lent words
+--     held_free, held_share, held_over      a code placed in lent words
 --     up_to, table_all, table_length, table_over   the first i codes placed
 --     placeable, turn                       code i placed by its triple
 -- Assumes nothing.
@@ -201,9 +201,9 @@ module _ {N W base : ℕ} {x : Triple} {c : Code} {t : Table} {lent : SlotWords}
           fits = h;
         }
 
-    pub held-over : room W < k + 3 → room W < length (place base c t).shares
+    pub held_over : room W < k + 3 → room W < length (place base c t).shares
     unfolding place
-    held-over h = rw more h
+    held_over h = rw more h
 
 -- ---- the first i codes placed
 abbrev pub up_to : List Code → ℕ → Table

@@ -26,7 +26,7 @@ use Rattle.insn_walk.proofs.Published.{payload_low}
 use Rattle.insn_walk.proofs.Walks.{Steps, lands_to, to_lands}
 use Rattle.completeness.proofs.Arrays.{Standing, payload, instruction, lands_within}
 use Rattle.completeness.proofs.Buckets.{InBuckets, owner_of}
-use Rattle.completeness.proofs.Walks.{passes, in-buckets}
+use Rattle.completeness.proofs.Walks.{passes, in_buckets}
 use Rattle.completeness.proofs.Owners.{tables_for, slot_of, owner, slot_free, no_answer}
 use Rattle.completeness.proofs.Entries.{no_hit, off_at, Tells, an_entry, entry_tells, answers, answer_at}
 
@@ -57,7 +57,7 @@ module _ {s : List ℕ} {mapoff classes_off classes methods : ℕ} {codes : List
 
     pub entered : (c : Code) → Memᴰ c codes → (p x : ℕ) → NamesWanted s c kind wanted p x → Entered p x
     entered c m p x N =
-        let b : InBuckets c (p / 16) = in-buckets P c m p N.units N.instruction in
+        let b : InBuckets c (p / 16) = in_buckets P c m p N.units N.instruction in
         let h = place_of no_hit (an_entry P kind wanted c m p x N) in
         record {
           n = h.0;
@@ -96,9 +96,9 @@ module _ {s : List ℕ} {mapoff classes_off classes methods : ℕ} {codes : List
         no q = absurd (C.confirmed (rw q at a))
 
     -- so it names a wanted index: no payload begins with an opcode of the kind
-    names-by : (d : Code) (o x : ℕ) → Tells s kind wanted o x → Standing s (stop d) (start d) o → NamesWanted s d kind wanted o x
-    names-by d o x t (payload l) = absurd (t.opcode (payload_low s P.bytes o l))
-    names-by d o x t (instruction {n} r i f) =
+    names_by : (d : Code) (o x : ℕ) → Tells s kind wanted o x → Standing s (stop d) (start d) o → NamesWanted s d kind wanted o x
+    names_by d o x t (payload l) = absurd (t.opcode (payload_low s P.bytes o l))
+    names_by d o x t (instruction {n} r i f) =
         record { units = n; instruction = record { reached = r; there = i; fits = f }; names = t.names; is_wanted = t.is_wanted }
 
     -- a confirmed entry lies in a bucket of an array, names a wanted index there, and its answer is the slot of that bucket
@@ -122,7 +122,7 @@ module _ {s : List ℕ} {mapoff classes_off classes methods : ℕ} {codes : List
               found = m;
               bucket = r.2;
               names =
-                  names-by d o x (entry_tells P kind wanted n o x C.in_list C.entry)
+                  names_by d o x (entry_tells P kind wanted n o x C.in_list C.entry)
                   (lands_within P.bytes (P.each d m).inside (P.each d m).array.whole w.walk w.before_end);
               its = w.its;
             }

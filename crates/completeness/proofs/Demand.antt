@@ -31,7 +31,7 @@ use Rattle.completeness.proofs.Outcomes.{HoldsTable, Suffices, Confirmed, Finds,
 use Rattle.completeness.proofs.Rises.{rising_once}
 use Rattle.completeness.proofs.Found.{codes_found}
 use Rattle.completeness.proofs.Few.{codes_few, shares_few}
-use Rattle.completeness.proofs.Walks.{tested, all_inside, in-buckets}
+use Rattle.completeness.proofs.Walks.{tested, all_inside, in_buckets}
 use Rattle.completeness.proofs.Owners.{tables_for, slot_of, Owner, owner}
 use Rattle.completeness.proofs.Entries.{entries_rise, answers}
 use Rattle.completeness.proofs.Confirmed.{lists_methods, Entered, entered, Landed, landed}
@@ -148,7 +148,7 @@ module _ (s : List ℕ) (h : DexHeader) (codes : List Code) (P : Supposed s h.ma
           k = e.n;
           slot = slot_of T p;
           entry = e.entry;
-          lists = lists_at c m p (slot_of T p) (owner P i j k c m p (in-buckets P c m p N.units N.instruction)) refl;
+          lists = lists_at c m p (slot_of T p) (owner P i j k c m p (in_buckets P c m p N.units N.instruction)) refl;
         };
     rising = entries_rise P kind wanted;
     once = λ n l a b e.

@@ -31,7 +31,7 @@ use Rattle.completeness.proofs.Buckets.{InBuckets}
 use Rattle.completeness.proofs.Widths.{zero_width, index_fits, Seen, named_width, width_names}
 use Rattle.completeness.proofs.Locates.{Located, located}
 use Rattle.completeness.proofs.Rises.{above_rising}
-use Rattle.completeness.proofs.Walks.{before_end, passes, at-even}
+use Rattle.completeness.proofs.Walks.{before_end, passes, at_even}
 use Rattle.completeness.proofs.Owners.{tables_for, slot_of, owner, answerable, answer_is}
 
 abbrev pub no_hit : Hit
@@ -66,7 +66,7 @@ module _ {s : List ℕ} {mapoff classes_off classes methods : ℕ} {codes : List
   -- an instruction that names a wanted index passes the scan's test
   tested : (d : Code) → Memᴰ d codes → (p x : ℕ) → NamesWanted s d kind wanted p x → Tested s Q p
   tested d m p x N = record {
-    tried = even_tried kind (p - from) (omega (arith, at-even P d m p N.units N.instruction, low d m p x N));
+    tried = even_tried kind (p - from) (omega (arith, at_even P d m p N.units N.instruction, low d m p x N));
     some_width = w.some_width;
     inside = omega (arith, room, N.instruction.fits, N.instruction.there.size, before_end P d m);
     wanted = mem_is_in {x = index_by s kind p} {ys = wanted} (rw w.index N.is_wanted);

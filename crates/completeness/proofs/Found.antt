@@ -72,9 +72,9 @@ module _ (s : List ℕ) (methods : ℕ) where
 
   -- ---- class data items
   module _ (small : length s ≤ largest_file) where
-    class-data-found : {i e : ℕ} {cs : List Code} → ClassData s i cs e → AllTested s methods cs → class_data_at s methods i ≡ found cs e
+    class_data_found : {i e : ℕ} {cs : List Code} → ClassData s i cs e → AllTested s methods cs → class_data_at s methods i ≡ found cs e
     unfolding class_data_at methods_at sizes_at two_at
-    class-data-found {i} {e} {cs} D t =
+    class_data_found {i} {e} {cs} D t =
         rw (
           fast_published D.size_statics,
           on D.size_statics,
@@ -94,26 +94,26 @@ module _ (s : List ℕ) (methods : ℕ) where
         pairs : (D.static_fields_size + D.instance_fields_size) % word ≡ D.static_fields_size + D.instance_fields_size
         pairs = omega (arith, numbers_few D.fields, numbers_inside D.fields (ends_inside D.size_virtuals.number))
 
-    successive-found : {n i : ℕ} {cs : List Code} → Successive s n i cs → AllTested s methods cs → (e : ℕ) × (successive n s methods i ≡ found cs e)
+    successive_found : {n i : ℕ} {cs : List Code} → Successive s n i cs → AllTested s methods cs → (e : ℕ) × (successive n s methods i ≡ found cs e)
     unfolding successive
-    successive-found {i = i} Successive.no_more t = (i, refl)
-    successive-found (Successive.one_more {cs = cs} {ds = ds} D r) t =
-        let o = successive-found r (λ x y. t x (Memᴰ.append_right cs y)) in
-        (o.0, rw (class-data-found D (λ x y. t x (Memᴰ.append_left ds y)), o.1))
+    successive_found {i = i} Successive.no_more t = (i, refl)
+    successive_found (Successive.one_more {cs = cs} {ds = ds} D r) t =
+        let o = successive_found r (λ x y. t x (Memᴰ.append_right cs y)) in
+        (o.0, rw (class_data_found D (λ x y. t x (Memᴰ.append_left ds y)), o.1))
 
-    defined-found : {n i : ℕ} {cs : List Code} → Defined s n i cs → AllTested s methods cs → (e : ℕ) × (defined n s methods i ≡ found cs e)
+    defined_found : {n i : ℕ} {cs : List Code} → Defined s n i cs → AllTested s methods cs → (e : ℕ) × (defined n s methods i ≡ found cs e)
     unfolding defined
-    defined-found {i = i} Defined.no_more t = (i, refl)
-    defined-found (no_data {i = i} h z r) t =
-        let o = defined-found r t in
+    defined_found {i = i} Defined.no_more t = (i, refl)
+    defined_found (no_data {i = i} h z r) t =
+        let o = defined_found r t in
         (o.0, rw (le-leb (i + 28) (length s) (omega arith), eq-eqb (class_data_off s i) 0 z) o.1)
-    defined-found (some_data {i = i} {cs = cs} {ds = ds} h z D r) t =
-        let o = defined-found r (λ x y. t x (Memᴰ.append_right cs y)) in (
+    defined_found (some_data {i = i} {cs = cs} {ds = ds} h z D r) t =
+        let o = defined_found r (λ x y. t x (Memᴰ.append_right cs y)) in (
           o.0,
           rw (
             le-leb (i + 28) (length s) (omega arith),
             ne_eqb (class_data_off s i) 0 z,
-            class-data-found D (λ x y. t x (Memᴰ.append_left ds y)),
+            class_data_found D (λ x y. t x (Memᴰ.append_left ds y)),
             o.1,
           ),
         )
@@ -135,11 +135,11 @@ pub codes_found : {s : List ℕ} (h : DexHeader) {cs : List Code} → length s �
     → (e : ℕ) × (codes_of s h ≡ found cs e)
 unfolding codes_of map_entry
 codes_found {s} h small (by_map z l E S) t =
-    let o = successive-found s h.methods.size small S t in
+    let o = successive_found s h.methods.size small S t in
     (o.0, rw (ne_eqb h.mapoff 0 z, le-ltb (length s) (h.mapoff + 4) l, entry_found E) o.1)
 codes_found {s} h small (without_entry z l E D) t =
-    let o = defined-found s h.methods.size small D t in
+    let o = defined_found s h.methods.size small D t in
     (o.0, rw (ne_eqb h.mapoff 0 z, le-ltb (length s) (h.mapoff + 4) l, no_entry_found E) o.1)
 codes_found {s} h small (without_map z D) t =
-    let o = defined-found s h.methods.size small D t in
+    let o = defined_found s h.methods.size small D t in
     (o.0, rw (eq-eqb h.mapoff 0 z) o.1)

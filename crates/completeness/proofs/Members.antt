@@ -86,12 +86,12 @@ unfolding Distinct
 distinct_sharing [] o h = h
 distinct_sharing (c ∷ cs) o h =
     ⊎_elim
-    (λ (q : eqb c.off o ≡ true). rw q ((λ k. h.0 (shares-method k)), distinct_sharing cs o h.1))
+    (λ (q : eqb c.off o ≡ true). rw q ((λ k. h.0 (shares_method k)), distinct_sharing cs o h.1))
     (λ (q : eqb c.off o ≡ false). rw q (distinct_sharing cs o h.1))
     (case (eqb c.off o))
   where
-    shares-method : Memᴰ c.method (sharing cs o) → Memᴰ c.method (methods_of cs)
-    shares-method k = let r : Sharer cs o c.method = sharer cs o c.method k in Memᴰ.cast (sym r.its) (mem_method r.found)
+    shares_method : Memᴰ c.method (sharing cs o) → Memᴰ c.method (methods_of cs)
+    shares_method k = let r : Sharer cs o c.method = sharer cs o c.method k in Memᴰ.cast (sym r.its) (mem_method r.found)
 
 -- ---- arranged
 pub mem_arranged : {m : ℕ} (ms : List ℕ) → Memᴰ m ms → Memᴰ m (arranged ms)

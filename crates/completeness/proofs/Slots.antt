@@ -122,11 +122,11 @@ module _ {s : List ℕ} {mapoff classes_off classes methods : ℕ} {codes : List
       len : (k : ℕ) × (length (t.shares ++ joined (seen (base_of codes) c t) c.method t.shares) ≡ 3 * k)
       len = joined_length t.shares (seen (base_of codes) c t) c.method g.n g.whole
 
-      with-c : (d : Code) → c.off ≡ d.off → arranged (sharing (done ++ (c ∷ [])) d.off) ≡ adds (arranged (sharing done c.off)) c.method
-      with-c d e = rw (sharing_append done (c ∷ []) d.off, ← e, eq-eqb c.off c.off refl) (arranged_snoc (sharing done c.off) c.method)
+      with_c : (d : Code) → c.off ≡ d.off → arranged (sharing (done ++ (c ∷ [])) d.off) ≡ adds (arranged (sharing done c.off)) c.method
+      with_c d e = rw (sharing_append done (c ∷ []) d.off, ← e, eq-eqb c.off c.off refl) (arranged_snoc (sharing done c.off) c.method)
 
-      without-c : (d : Code) → (c.off ≡ d.off → ⊥) → sharing (done ++ (c ∷ [])) d.off ≡ sharing done d.off
-      without-c d f = rw (sharing_append done (c ∷ []) d.off, ne_eqb c.off d.off f) (append-nil (sharing done d.off))
+      without_c : (d : Code) → (c.off ≡ d.off → ⊥) → sharing (done ++ (c ∷ [])) d.off ≡ sharing done d.off
+      without_c d f = rw (sharing_append done (c ∷ []) d.off, ne_eqb c.off d.off f) (append-nil (sharing done d.off))
 
       mine : (d : Code) → Memᴰ d codes → (b : ℕ) → InBuckets d b → c.off ≡ d.off
           → Stands (place (base_of codes) c t).shares (word_at (base_of codes) (place (base_of codes) c t) b)
@@ -134,7 +134,7 @@ module _ {s : List ℕ} {mapoff classes_off classes methods : ℕ} {codes : List
       mine d k b i e =
           let u : c.units ≡ d.units = one_offset c d (P.apart c d m k) e in
           let j : InBuckets c b = record { from_first = omega (arith, i.from_first); to_last = omega (arith, i.to_last) } in
-          rw (inside c m t g.roomy b j, place_shares (base_of codes) c t, with-c d e)
+          rw (inside c m t g.roomy b j, place_shares (base_of codes) c t, with_c d e)
           (join c.method g.n (g.held c m (first_bucket c) (bucket_first c m)) (P.each c m).small g.whole)
 
       other : (d : Code) → Memᴰ d codes → (b : ℕ) → InBuckets d b → (c.off ≡ d.off → ⊥)
@@ -144,7 +144,7 @@ module _ {s : List ℕ} {mapoff classes_off classes methods : ℕ} {codes : List
           rw (
             outside c m t g.roomy b (omega (arith, base_le k, i.from_first)) (λ j. f (one_item c d b (P.apart c d m k) j i)),
             place_shares (base_of codes) c t,
-            without-c d f,
+            without_c d f,
           )
           (stands_append (joined (seen (base_of codes) c t) c.method t.shares) (g.held d k b i))
 

@@ -35,8 +35,8 @@ module _ {s : List ℕ} {mapoff classes_off classes methods : ℕ} {codes : List
     pub passes : Steps s (start d) p
     passes = comes_to P.bytes (P.each d m).inside I.reached
 
-    pub in-buckets : InBuckets d (p / 16)
-    in-buckets = record { from_first = omega (arith, steps_le passes); to_last = omega (arith, I.fits, I.there.some_size) }
+    pub in_buckets : InBuckets d (p / 16)
+    in_buckets = record { from_first = omega (arith, steps_le passes); to_last = omega (arith, I.fits, I.there.some_size) }
 
-    pub at-even : p % 2 ≡ 0
-    at-even = steps_even passes (omega (arith, (P.each d m).aligned))
+    pub at_even : p % 2 ≡ 0
+    at_even = steps_even passes (omega (arith, (P.each d m).aligned))

@@ -157,10 +157,10 @@ module _ (s : List ℕ) (h : DexHeader) (kind : ℕ) (wanted : List ℕ) (before
         ∙ first_padded h.methods.size build_of.starts (length before.table.starts)
         (starts_length s h (room_of before.table) (sym B.number))
 
-    searched-is : search_out s (asked kind wanted g.start g.end)
+    searched_is : search_out s (asked kind wanted g.start g.end)
         (tables (g.start / 16) t.slots (first_starts h.methods.size t.starts) t.shares)
         L.hits L.further L.answers ≡ S
-    searched-is = rw (B.from, B.to, B.slots, passed_is, B.shares)
+    searched_is = rw (B.from, B.to, B.slots, passed_is, B.shares)
 
     by_number : (r : Found) (after : FindWords) → SameRoom t before.table
         → FoundIn S g r (find_words t before.hits before.located) after → GivesFind goal r before after
@@ -206,4 +206,4 @@ module _ (s : List ℕ) (h : DexHeader) (kind : ℕ) (wanted : List ℕ) (before
         (hit_room_of before.hits) L.further L.answers)
         g r (find_words t before.hits before.located) after
         → GivesFind goal r before after
-    find_built r after M F = by_number r after M (rw searched-is at F)
+    find_built r after M F = by_number r after M (rw searched_is at F)

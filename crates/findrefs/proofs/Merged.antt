@@ -118,23 +118,23 @@ module _ (s : List ℕ) (answer : ℕ → ℕ) where
     abbrev by : (ℕ → Bool) → Sought
     by wants = sought Q.kind wants Q.from Q.to
 
-    shows-either : (p : ℕ) → shows Q p ≡ (shows (by a) p || shows (by b) p)
-    shows-either p =
+    shows_either : (p : ℕ) → shows Q p ≡ (shows (by a) p || shows (by b) p)
+    shows_either p =
         let i : ℕ = index_by s Q.kind p in
         let w : ℕ = width_of Q.kind (byte s p) in
         rw (split i) (either (is_tried Q.kind (p - Q.from) && ltb 0 w && leb (p + 2 + w) Q.to) (a i) (b i) (not (eqb (answer p) 0)))
 
-    merged-in : (n p : ℕ) → shown answer (hits_in n s Q p) ≡ merged (shown answer (hits_in n s (by a) p)) (shown answer (hits_in n s (by b) p))
+    merged_in : (n p : ℕ) → shown answer (hits_in n s Q p) ≡ merged (shown answer (hits_in n s (by a) p)) (shown answer (hits_in n s (by b) p))
     unfolding hits_in
-    merged-in zero p = refl
-    merged-in (suc n) p =
-        rw (shown_in n Q p, shown_in n (by a) p, shown_in n (by b) p, merged-in n (suc p), shows-either p)
+    merged_in zero p = refl
+    merged_in (suc n) p =
+        rw (shown_in n Q p, shown_in n (by a) p, shown_in n (by b) p, merged_in n (suc p), shows_either p)
         (merged_with (entry_by Q.kind p) (shows (by a) p) (shows (by b) p) (shown answer (hits_in n s (by a) (suc p)))
         (shown answer (hits_in n s (by b) (suc p))) (from_in n (by a) (suc p)) (from_in n (by b) (suc p)))
 
     merged_by : shown answer (hits_by s Q) ≡ merged (shown answer (hits_by s (by a))) (shown answer (hits_by s (by b)))
     unfolding hits_by
-    merged_by = merged-in (Q.to - Q.from) Q.from
+    merged_by = merged_in (Q.to - Q.from) Q.from
 
 -- ---- the law
 pub shown_merged : (s : List ℕ) (answer : ℕ → ℕ) (kind : Kind) (from to : ℕ) {wanted a b : List ℕ} → Together wanted a b

@@ -106,11 +106,11 @@ module _ (s : List ℕ) (h : DexHeader) (kind : Kind) (wanted : List ℕ) (w : F
         all_is X.build_succeeds X.scan_succeeds X.locate_succeeds
 
     -- "lent buffers that suffice", exactly, are those with which the outcome is not 4
-    pub suffices-not-four : Suffices s m codes kind wanted (lent_of m w) → goal.number ≢ 4
-    suffices-not-four F e = omega (arith, ap (λ (o : Find). o.number) (all_found F))
+    pub suffices_not_four : Suffices s m codes kind wanted (lent_of m w) → goal.number ≢ 4
+    suffices_not_four F e = omega (arith, ap (λ (o : Find). o.number) (all_found F))
 
-    pub not-four-suffices : goal.number ≢ 4 → Suffices s m codes kind wanted (lent_of m w)
-    not-four-suffices n =
+    pub not_four_suffices : goal.number ≢ 4 → Suffices s m codes kind wanted (lent_of m w)
+    not_four_suffices n =
         let T : HoldsTable m codes L.build = build_holds s h codes P kind wanted (lent_of m w) (λ z. n (number_unbuilt (λ y. omega arith) ∙ z)) in
         let b : R.build ≡ whole_build (length s) m codes = build_is s h codes P kind wanted (lent_of m w) T in
         let p : R.build.number ≡ 0 = ap (λ (B : Build). B.number) b in
@@ -137,7 +137,7 @@ module _ (s : List ℕ) (h : DexHeader) (kind : Kind) (wanted : List ℕ) (w : F
 
       pub reports : Reports (call_of s h (kind_number kind) wanted) codes kind w (reply_of r) after
       reports = record {
-        fits = λ n. not-four-suffices (λ z. n (G.number ∙ z));
+        fits = λ n. not_four_suffices (λ z. n (G.number ∙ z));
         succeeds = λ F. G.number ∙ ap (λ (o : Find). o.number) (all_found F);
         count = λ F. (rw (all_found F) at G).count;
         holds = λ F. holds (rw (all_found F) at G);

@@ -153,8 +153,8 @@ module _ {s : List ℕ} {h : DexHeader} (law : Answers s h) (kind : ℕ) (wanted
         locates s T (offs hits) L.answers L.further answers
         (law.each L p B.from (offs hits) (hits_rise s wanted B.from B.to (kind_of kind)) L.answers L.further)
 
-    after-scan : Ends number_of_search whole_search (searched hits locate_of)
-    after-scan = record {
+    after_scan : Ends number_of_search whole_search (searched hits locate_of)
+    after_scan = record {
       not_15 = λ q. hits_located.not_15 (sym (searched_number hits locate_of) ∙ q);
       all = λ q. rw (hits_located.all (sym (searched_number hits locate_of) ∙ q)) refl;
     }
@@ -163,11 +163,11 @@ module _ {s : List ℕ} {h : DexHeader} (law : Answers s h) (kind : ℕ) (wanted
     unfolding search_out
     searches =
         cond_elim (Ends number_of_search whole_search) (eqb scan_of.number 0) _ (record { number = scan_of.number; hits = scan_of.hits; answers = [] })
-        (λ e. rw (hits_scanned.all (eqb-true scan_of.number 0 e)) after-scan)
+        (λ e. rw (hits_scanned.all (eqb-true scan_of.number 0 e)) after_scan)
         (λ e. refuses number_of_search whole_search _ hits_scanned.not_15 (eqb-false scan_of.number 0 e))
 
-    finds-built : Ends number_of_find whole (found B (search_of s kind wanted L B))
-    finds-built =
+    finds_built : Ends number_of_find whole (found B (search_of s kind wanted L B))
+    finds_built =
         let R = search_of s kind wanted L B in
         record {
           not_15 = λ q. searches.not_15 (sym (found_number B R) ∙ q);
@@ -178,7 +178,7 @@ module _ {s : List ℕ} {h : DexHeader} (law : Answers s h) (kind : ℕ) (wanted
   unfolding find_out
   finds =
       cond_elim (Ends number_of_find whole) (eqb B.number 0) _ (record { number = B.number; build = B; hits = []; answers = [] })
-      (λ e. finds-built (eqb-true B.number 0 e))
+      (λ e. finds_built (eqb-true B.number 0 e))
       (λ e. refuses number_of_find whole _ (never_15 s h L.build) (eqb-false B.number 0 e))
 
   pub find_never_15 : (find_out s h kind wanted L).number ≢ 15

@@ -77,9 +77,9 @@ module _ {bits : List ℕ} {i : ℕ} {start here : Front} {w x : ℕ} (m : Midwa
         }
 
     -- x is not held
-    pub word-pass : (w % 2 ≡ 1 → ⊥) → {out' : List ℕ} {held' : ℕ} → out' ≡ here.words → held' ≡ here.held
+    pub word_pass : (w % 2 ≡ 1 → ⊥) → {out' : List ℕ} {held' : ℕ} → out' ≡ here.words → held' ≡ here.held
         → Midway bits i start (front out' held') (w / 2) (x + 1)
-    word-pass d p q =
+    word_pass d p q =
         next_word (toward_same
         (held_none bits (64 * i + 64 - x) x (omega (arith, room)) (bit_here bits i x w m.low m.is room ∙ ne_eqb (w % 2) 1 d)) m.rest)
         m.long p q
@@ -88,13 +88,13 @@ module _ {bits : List ℕ} {i : ℕ} {start here : Front} {w x : ℕ} (m : Midwa
       first : held_from (64 * i + 64 - x) bits x ≡ x ∷ held_from (64 * i + 64 - x - 1) bits (x + 1)
       first = held_one bits (64 * i + 64 - x) x (omega (arith, room)) (bit_here bits i x w m.low m.is room ∙ eq-eqb (w % 2) 1 one)
 
-      pub word-joins : (k : ℕ) → r ≡ Held k → length v ≡ length here.words → {out' : List ℕ} {held' : ℕ} → out' ≡ v → held' ≡ k
+      pub word_joins : (k : ℕ) → r ≡ Held k → length v ≡ length here.words → {out' : List ℕ} {held' : ℕ} → out' ≡ v → held' ≡ k
           → Midway bits i start (front out' held') (w / 2) (x + 1)
-      word-joins k e l p q =
+      word_joins k e l p q =
           next_word (λ u f j. toward_same first m.rest u f (next (subst (Inserts x here.held here.words v) e s) j)) (l ∙ m.long) p q
 
-      pub word-full : r ≡ Full → Joins (held_from 64 bits (64 * i)) start.held start.words v Full
-      word-full e = toward_same first m.rest v Full (stop (subst (Inserts x here.held here.words v) e s))
+      pub word_full : r ≡ Full → Joins (held_from 64 bits (64 * i)) start.held start.words v Full
+      word_full e = toward_same first m.rest v Full (stop (subst (Inserts x here.held here.words v) e s))
 
 -- the words from i on
 pub record Through (bits : List ℕ) (start : Front) (end : ℕ) (here : Front) (i : ℕ) : Type 0 where
@@ -126,10 +126,10 @@ module _ {bits : List ℕ} {start : Front} {end : ℕ} {here : Front} {i : ℕ} 
         ap (λ (k : ℕ). held_from k bits (64 * i)) a ∙ held_split bits 64 (64 * (end - (i + 1))) (64 * i) ∙ ap
         (λ (k : ℕ). held_from 64 bits (64 * i) ++ held_from (64 * (end - (i + 1))) bits k) b
 
-    pub all-next : {v : List ℕ} {r : Insertion} (k : ℕ) → Joins (held_from 64 bits (64 * i)) here.held here.words v r → r ≡ Held k
+    pub all_next : {v : List ℕ} {r : Insertion} (k : ℕ) → Joins (held_from 64 bits (64 * i)) here.held here.words v r → r ≡ Held k
         → length v ≡ length here.words → {out' : List ℕ} {held' : ℕ} → out' ≡ v → held' ≡ k
         → Through bits start end (front out' held') (i + 1)
-    all-next k j e f p q =
+    all_next k j e f p q =
         rw (p, q) record {
           ends = t.ends;
           inside = omega arith;
@@ -137,9 +137,9 @@ module _ {bits : List ℕ} {start : Front} {end : ℕ} {here : Front} {i : ℕ} 
           long = f ∙ t.long;
         }
 
-    pub all-full : {v : List ℕ} {r : Insertion} → Joins (held_from 64 bits (64 * i)) here.held here.words v r → r ≡ Full
+    pub all_full : {v : List ℕ} {r : Insertion} → Joins (held_from 64 bits (64 * i)) here.held here.words v r → r ≡ Full
         → Joins (indices bits) start.held start.words v Full
-    all-full {v} j e = toward_same split t.rest v Full (joins_full (held_from (64 * (end - (i + 1))) bits (64 * (i + 1))) j e)
+    all_full {v} j e = toward_same split t.rest v Full (joins_full (held_from (64 * (end - (i + 1))) bits (64 * (i + 1))) j e)
 
 -- for a caller
 pub gathered : (bits : List ℕ) → length bits ≤ 67108864 → {n : ℕ} {out after : List ℕ} {r : Insertion} → Holding n out

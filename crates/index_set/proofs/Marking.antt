@@ -1,6 +1,6 @@
 -- A set collected in marks and in a rising list: what is marked counts as still to come, so that the list is one that is being collected
 -- (`Collected`). A word that is marked goes from one part of what is to come into the other; at the end the marks join the list.
---     mark_start, mark-pass, mark-add, mark-full, mark_all, mark_all_full, mark_end
+--     mark_start, mark_pass, mark_add, mark_full, mark_all, mark_all_full, mark_end
 -- Assumes nothing.
 use Prim.Native.Nat.{ℕ, ◌≤◌, ◌<◌}
 use native.Mathlib.Omega.{arith}
@@ -18,7 +18,7 @@ use Rattle.word_set.specs.Steps.{Matched}
 use Rattle.word_set.specs.declared.Insertion.{Insertion}
 use Rattle.word_set.specs.declared.Insertion.TheVariants.{Held, Full}
 use Rattle.word_set.proofs.Sets.{in_none, in_here, in_cons, in_cases}
-use Rattle.word_set.proofs.Collected.{Collected, collect_start, collect-pass, collect-insert, collect-full, held_length}
+use Rattle.word_set.proofs.Collected.{Collected, collect_start, collect_pass, collect_insert, collect_full, held_length}
 use Rattle.word_set.proofs.Joins.{joins_collected}
 use Rattle.index_set.specs.Bits.{is_held, Adds, indices}
 use Rattle.index_set.proofs.Bits.{indices_set, held_zeros}
@@ -75,20 +75,20 @@ module _ {P : ℕ → Type 0} {room : ℕ} where
 
   module _ {Q Q' : ℕ → Type 0} {n : ℕ} {w : SetWords} (c : Marking P Q room n w) (less : (y : ℕ) → Q' y → Q y) where
     -- nothing joined
-    pub mark-pass : ((y : ℕ) → Q y → Q' y) → {m : ℕ} {after : SetWords} {r : Insertion} → after ≡ w → r ≡ Held n → r ≡ Held m
+    pub mark_pass : ((y : ℕ) → Q y → Q' y) → {m : ℕ} {after : SetWords} {r : Insertion} → after ≡ w → r ≡ Held n → r ≡ Held m
         → Marking P Q' room m after
-    mark-pass same {m} e a h =
+    mark_pass same {m} e a h =
         subst (Marking P Q' room m) (sym e)
         record {
-          collected = collect-pass c.collected (λ y q. ⊎_elim (λ (t : is_held w.marks y ≡ true). inl t) (λ (k : Q' y). inr (less y k)) q)
+          collected = collect_pass c.collected (λ y q. ⊎_elim (λ (t : is_held w.marks y ≡ true). inl t) (λ (k : Q' y). inr (less y k)) q)
               (λ y q. ⊎_elim (λ (t : is_held w.marks y ≡ true). inl t) (λ (k : Q y). inr (same y k)) q) refl a h;
           few = c.few;
         }
 
     module _ {x : ℕ} (now : Q x) {after : SetWords} {r : Insertion} where
-      pub mark-add : (m : ℕ) → ((y : ℕ) → Q y → (y ≡ x) ⊎ Q' y) → Added x n w after r → r ≡ Held m → Marking P Q' room m after
-      mark-add m one (marked a s h) e = record {
-        collected = collect-pass c.collected
+      pub mark_add : (m : ℕ) → ((y : ℕ) → Q y → (y ≡ x) ⊎ Q' y) → Added x n w after r → r ≡ Held m → Marking P Q' room m after
+      mark_add m one (marked a s h) e = record {
+        collected = collect_pass c.collected
             (λ y q. ⊎_elim (λ (t : is_held after.marks y ≡ true). ⊎_elim (λ (k : is_held w.marks y ≡ true). inl k)
             (λ (d : y ≡ x). inr (subst Q (sym d) now)) (was true a y t)) (λ (k : Q' y). inr (less y k)) q)
             (λ y q. ⊎_elim (λ (t : is_held w.marks y ≡ true). inl (kept true a y t))
@@ -96,9 +96,9 @@ module _ {P : ℕ → Type 0} {room : ℕ} where
             (one y k)) q) s h e;
         few = omega (arith, a.long, c.few);
       }
-      mark-add m one (inserted a i) e = record {
+      mark_add m one (inserted a i) e = record {
         collected =
-            collect-insert c.collected
+            collect_insert c.collected
             (λ y q. ⊎_elim (λ (t : is_held after.marks y ≡ true). inl (was_false a y t)) (λ (k : Q' y). inr (less y k)) q) x (inr now)
             after.words r i m
             (λ y q. ⊎_elim (λ (t : is_held w.marks y ≡ true). inr (inl (kept false a y t)))
@@ -107,10 +107,10 @@ module _ {P : ℕ → Type 0} {room : ℕ} where
       }
 
   module _ {Q : ℕ → Type 0} {n : ℕ} {w : SetWords} (c : Marking P Q room n w) where
-    pub mark-full : {x : ℕ} (now : Q x) {after : SetWords} {r : Insertion} → Added x n w after r → r ≡ Full → (l : List ℕ) → SetOf P l
+    pub mark_full : {x : ℕ} (now : Q x) {after : SetWords} {r : Insertion} → Added x n w after r → r ≡ Full → (l : List ℕ) → SetOf P l
         → room < length l
-    mark-full now {r = r} (marked a s h) e = absurd (let z : ◌≡◌ {A = ℕ} 0 1 = cc in omega arith)
-    mark-full {x} now {after} {r} (inserted a i) e = collect-full c.collected (λ y q. q) x (inr now) after.words r i e
+    mark_full now {r = r} (marked a s h) e = absurd (let z : ◌≡◌ {A = ℕ} 0 1 = cc in omega arith)
+    mark_full {x} now {after} {r} (inserted a i) e = collect_full c.collected (λ y q. q) x (inr now) after.words r i e
 
   -- the words of a list
   pub mark_all :
@@ -118,10 +118,10 @@ module _ {P : ℕ → Type 0} {room : ℕ} where
       (now : (y : ℕ) → In y xs → Q y) {r : Insertion} (m : ℕ)
       → ((y : ℕ) → Q y → In y xs ⊎ Q' y) → AddedAll xs n w after r → r ≡ Held m → Marking P Q' room m after
   mark_all {Q} {Q'} c less now m one none e =
-      mark-pass c less (λ y q. ⊎_elim (λ (i : In y []). absurd (in_none i)) (λ (k : Q' y). k) (one y q)) refl refl e
+      mark_pass c less (λ y q. ⊎_elim (λ (i : In y []). absurd (in_none i)) (λ (k : Q' y). k) (one y q)) refl refl e
   mark_all {Q} {Q'} c less now m one (next {x} {n} {k} {xs} a j) e =
       mark_all
-      (mark-add c (λ y q. ⊎_elim (λ (i : In y xs). now y (in_cons x i)) (λ (h : Q' y). less y h) q) (now x (in_here x xs)) k
+      (mark_add c (λ y q. ⊎_elim (λ (i : In y xs). now y (in_cons x i)) (λ (h : Q' y). less y h) q) (now x (in_here x xs)) k
       (λ y q. ⊎_elim (λ (i : In y (x ∷ xs)). ⊎_elim (λ (d : y ≡ x). inl d) (λ (h : In y xs). inr (inl h)) (in_cases i)) (λ (h : Q' y). inr (inr h))
       (one y q)) a refl)
       (λ y h. inr h) (λ y i. inl i) m (λ y q. q) j e
@@ -132,8 +132,8 @@ module _ {P : ℕ → Type 0} {room : ℕ} where
       → AddedAll xs n w after r → r ≡ Full → (l : List ℕ) → SetOf P l → room < length l
   mark_all_full c now none e = absurd (let z : ◌≡◌ {A = ℕ} 0 1 = cc in omega arith)
   mark_all_full {Q} c now (next {x} {n} {k} {xs} a j) e =
-      mark_all_full (mark-add c (λ y q. q) (now x (in_here x xs)) k (λ y q. inr q) a refl) (λ y i. now y (in_cons x i)) j e
-  mark_all_full c now (stop {x} {n} {xs} a) e = mark-full c (now x (in_here x xs)) a refl
+      mark_all_full (mark_add c (λ y q. q) (now x (in_here x xs)) k (λ y q. inr q) a refl) (λ y i. now y (in_cons x i)) j e
+  mark_all_full c now (stop {x} {n} {xs} a) e = mark_full c (now x (in_here x xs)) a refl
 
   pub mark_length : {Q : ℕ → Type 0} {n : ℕ} {w : SetWords} → Marking P Q room n w → length w.words ≡ room
   mark_length c = held_length c.collected
@@ -145,7 +145,7 @@ pub mark_end : {P Q : ℕ → Type 0} {n : ℕ} (before : List ℕ) {w : SetWord
 mark_end {P} {Q} {n} before {w} c over j =
     let s = indices_set w.marks c.few in
     joins_collected before
-    (collect-pass c.collected (λ y i. inl (s.sound y i))
+    (collect_pass c.collected (λ y i. inl (s.sound y i))
     (λ y q. ⊎_elim (λ (t : is_held w.marks y ≡ true). s.complete y t) (λ (k : Q y). absurd (over y k)) q) {m = n} {after = w.words} {r = Held n}
     refl refl refl) j
 

@@ -32,14 +32,14 @@ module _ {start : SetWords} {n : ℕ} {more : List ℕ} {here : SetWords} {held 
     first : {q : Insertion} → r ≡ q → Added (get_or more i 0) held here after q
     first e = subst (Added (get_or more i 0) held here after) e a
 
-    pub walk-next : (m : ℕ) → r ≡ Held m → length after.marks ≡ length here.marks → length after.words ≡ length here.words
+    pub walk_next : (m : ℕ) → r ≡ Held m → length after.marks ≡ length here.marks → length after.words ≡ length here.words
         → Walking start n more after m (i + 1)
-    walk-next m e l k = record {
+    walk_next m e l k = record {
       inside = omega arith;
       marks_long = omega (arith, w.marks_long);
       words_long = omega (arith, w.words_long);
       toward = λ u q b. w.toward u q (subst (λ (l : List ℕ). AddedAll l held here u q) (sym split) (next (first e) b));
     }
 
-    pub walk-full : r ≡ Full → AddedAll more n start after Full
-    walk-full e = w.toward after Full (subst (λ (l : List ℕ). AddedAll l held here after Full) (sym split) (stop (first e)))
+    pub walk_full : r ≡ Full → AddedAll more n start after Full
+    walk_full e = w.toward after Full (subst (λ (l : List ℕ). AddedAll l held here after Full) (sym split) (stop (first e)))

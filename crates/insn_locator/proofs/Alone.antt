@@ -105,26 +105,26 @@ module _ (s : List ℕ) (T : Tables) (last : List ℕ) (low t v : ℕ) (le : low
     from = from_of p.start (get_or last m 0)
 
     -- the words that the definition notes
-    noted-ready : (b : Bool) → confirmed_by s p from t ≡ b → Ready s T t (noted b last m t)
-    noted-ready true q =
+    noted_ready : (b : Bool) → confirmed_by s p from t ≡ b → Ready s T t (noted b last m t)
+    noted_ready true q =
         let w : walks s from t ≡ true = and_right (before_end p t) (walks s from t) q in
         ready_on s T m p t last (set last m t) e
         (goes_on_confirmed s p.start m t last from refl (ltb-true 0 from (and_left (ltb 0 from) (lands s from t) w))
         (and_right (ltb 0 from) (lands s from t) w))
         low le R
-    noted-ready false q = ready_later s T t last low le R
+    noted_ready false q = ready_later s T t last low le R
 
-    tried-one : OneEntry s T t (some (tried s p last v m t)) (some (tried s p nothing v m t))
-    tried-one = record {
+    tried_one : OneEntry s T t (some (tried s p last v m t)) (some (tried s p nothing v m t))
+    tried_one = record {
       same = ap (λ (b : Bool). some (cond b v 0)) (from_place s p from t (R m p e t le) ∙ sym (from_none s p (pair_count T.starts) m t));
       ready = λ r f.
           let z : r.last ≡ noted (confirmed_by s p from t) last m t = ap (λ (x : Answered). x.last) (sym (some_inj f)) in
-          rw z (noted-ready (confirmed_by s p from t) refl);
+          rw z (noted_ready (confirmed_by s p from t) refl);
     }
 
   pair_by : (m : ℕ) (o : Option Pair) → pair_of T.starts m ≡ o → OneEntry s T t (tried_by s last v m t o) (tried_by s nothing v m t o)
   pair_by m none e = no_answer
-  pair_by m (some p) e = tried-one m p e
+  pair_by m (some p) e = tried_one m p e
 
   first_by : (o : Option ℕ) → OneEntry s T t (answered_by s T.starts last v t o) (answered_by s T.starts nothing v t o)
   first_by none = no_answer

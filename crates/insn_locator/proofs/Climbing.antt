@@ -22,13 +22,13 @@ module _ (ts : List ℕ) (i low : ℕ) where
   climbs_end h = rw (drop_of_length-le ts h)
 
   module _ (left : i < length ts) where
-    pub climbs-falls : get_or ts i 0 < low → false ≡ climbs low (drop i ts)
+    pub climbs_falls : get_or ts i 0 < low → false ≡ climbs low (drop i ts)
     unfolding climbs
-    climbs-falls h = rw (drop-cons ts i 0 left, lt-leb low (get_or ts i 0) h)
+    climbs_falls h = rw (drop-cons ts i 0 left, lt-leb low (get_or ts i 0) h)
 
-    pub climbs-again : low ≤ get_or ts i 0 → climbs (get_or ts i 0) (drop (i + 1) ts) ≡ climbs low (drop i ts)
+    pub climbs_again : low ≤ get_or ts i 0 → climbs (get_or ts i 0) (drop (i + 1) ts) ≡ climbs low (drop i ts)
     unfolding climbs
-    climbs-again h = rw (add-one i, drop-cons ts i 0 left, le-leb low (get_or ts i 0) h)
+    climbs_again h = rw (add-one i, drop-cons ts i 0 left, le-leb low (get_or ts i 0) h)
 
 -- ---- the first entry
 

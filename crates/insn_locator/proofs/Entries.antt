@@ -35,39 +35,39 @@ module _ (s : List ℕ) (T : Tables) (entries : List ℕ) (i : ℕ) (last out : 
   rest_end h = ap (λ (l : List ℕ). stored out i (locate_from s T last l)) (sym (drop_of_length-le entries h))
 
   module _ (left : i < length entries) where
-    rest-cons : (o : Option Answered) → o ≡ answered s T last (get_or entries i 0) (slot_at T.base T.slots (get_or entries i 0))
+    rest_cons : (o : Option Answered) → o ≡ answered s T last (get_or entries i 0) (slot_at T.base T.slots (get_or entries i 0))
         → rest s T entries i last ≡ and_then o (λ l. rest s T entries (suc i) l)
     unfolding locate_from
-    rest-cons o e = rw (drop-cons entries i 0 left, ← e)
+    rest_cons o e = rw (drop-cons entries i 0 left, ← e)
 
-    pub rest-fault : none ≡ answer_of (answered s T last (get_or entries i 0) (slot_at T.base T.slots (get_or entries i 0)))
+    pub rest_fault : none ≡ answer_of (answered s T last (get_or entries i 0) (slot_at T.base T.slots (get_or entries i 0)))
         → none ≡ stored out i (rest s T entries i last)
-    rest-fault e = ap (stored out i) (sym (rest-cons none (no_answer _ e)))
+    rest_fault e = ap (stored out i) (sym (rest_cons none (no_answer _ e)))
 
-    rest-answer : (a : ℕ) (last' out' : List ℕ) → out' ≡ set out i a
+    rest_answer : (a : ℕ) (last' out' : List ℕ) → out' ≡ set out i a
         → rest s T entries i last ≡ cons_to a (rest s T entries (suc i) last')
         → stored out' (i + 1) (rest s T entries (i + 1) last') ≡ stored out i (rest s T entries i last)
-    rest-answer a last' out' p e =
+    rest_answer a last' out' p e =
         rw (add-one i, p) (stored_cons out i a (rest s T entries (suc i) last') ∙ ap (stored out i) (sym e))
 
     module _ (last' : List ℕ) (keeps : ReadyOn s T (get_or entries i 0) last last') (O : Onward s T last (drop i entries)) where
-      first-left : Onward s T last (get_or entries i 0 ∷ drop (suc i) entries)
-      first-left = rw (drop-cons entries i 0 left) at O
+      first_left : Onward s T last (get_or entries i 0 ∷ drop (suc i) entries)
+      first_left = rw (drop-cons entries i 0 left) at O
 
-      pub rest-onward : Onward s T last' (drop (i + 1) entries)
-      rest-onward = rw (add-one i) (onward_on s T (get_or entries i 0) (drop (suc i) entries) last last' first-left keeps)
+      pub rest_onward : Onward s T last' (drop (i + 1) entries)
+      rest_onward = rw (add-one i) (onward_on s T (get_or entries i 0) (drop (suc i) entries) last last' first_left keeps)
 
-      pub answer-onward : (a : ℕ) → some a ≡ answer_of (answered s T last (get_or entries i 0) (slot_at T.base T.slots (get_or entries i 0)))
+      pub answer_onward : (a : ℕ) → some a ≡ answer_of (answered s T last (get_or entries i 0) (slot_at T.base T.slots (get_or entries i 0)))
           → rest s T entries i last ≡ cons_to a (rest s T entries (suc i) last')
-      answer-onward a e =
+      answer_onward a e =
           ap (locate_from s T last) (drop-cons entries i 0 left)
-          ∙ onward_turn s T (get_or entries i 0) (drop (suc i) entries) last last' first-left keeps a e
+          ∙ onward_turn s T (get_or entries i 0) (drop (suc i) entries) last last' first_left keeps a e
 
     -- one entry answered, in either way
-    pub rest-turn : (onward : Bool) (a : ℕ) (last' out' : List ℕ) → out' ≡ set out i a
+    pub rest_turn : (onward : Bool) (a : ℕ) (last' out' : List ℕ) → out' ≡ set out i a
         → EntryIn onward (answered s T last (get_or entries i 0) (slot_at T.base T.slots (get_or entries i 0))) (Word a) last'
         → (onward ≡ true → ReadyOn s T (get_or entries i 0) last last') → (onward ≡ true → Onward s T last (drop i entries))
         → stored out' (i + 1) (rest s T entries (i + 1) last') ≡ stored out i (rest s T entries i last)
-    rest-turn false a last' out' p E keeps O =
-        rest-answer a last' out' p (rest-cons (some (record { answer = a; last = last' })) (E.whole refl))
-    rest-turn true a last' out' p E keeps O = rest-answer a last' out' p (answer-onward last' (keeps refl) (O refl) a E.answer)
+    rest_turn false a last' out' p E keeps O =
+        rest_answer a last' out' p (rest_cons (some (record { answer = a; last = last' })) (E.whole refl))
+    rest_turn true a last' out' p E keeps O = rest_answer a last' out' p (answer_onward last' (keeps refl) (O refl) a E.answer)

@@ -26,11 +26,11 @@ module _ (s : List ℕ) (p : Pair) (last : List ℕ) (v m t : ℕ) where
     pub tried_none : from ≡ 0 → record { answer = 0; last = last } ≡ tried s p last v m t
     tried_none z = rw (lt-ltb t p.end before, ← here, le-ltb 0 from (omega arith))
 
-    pub tried-off : 0 < from → lands s from t ≡ false → record { answer = 0; last = last } ≡ tried s p last v m t
-    tried-off h e = rw (lt-ltb t p.end before, ← here, lt-ltb 0 from h, e)
+    pub tried_off : 0 < from → lands s from t ≡ false → record { answer = 0; last = last } ≡ tried s p last v m t
+    tried_off h e = rw (lt-ltb t p.end before, ← here, lt-ltb 0 from h, e)
 
-    pub tried-on : 0 < from → lands s from t ≡ true → record { answer = v; last = set last m t } ≡ tried s p last v m t
-    tried-on h e = rw (lt-ltb t p.end before, ← here, lt-ltb 0 from h, e)
+    pub tried_on : 0 < from → lands s from t ≡ true → record { answer = v; last = set last m t } ≡ tried s p last v m t
+    tried_on h e = rw (lt-ltb t p.end before, ← here, lt-ltb 0 from h, e)
 
 -- what was done is the definition's, in either way
 pub tried_same : {onward : Bool} {goal done : Answered} → done ≡ goal → Tried onward goal done

@@ -51,27 +51,27 @@ module _ (s : List ℕ) (T : Tables) (entries : List ℕ) (room further : ℕ) w
   locate_long h = rw h
 
   module _ (fits : is_too_large (length s) ≡ false) where
-    pub locate-room : room < length entries → locate_out s T entries room further ≡ refused 4
+    pub locate_room : room < length entries → locate_out s T entries room further ≡ refused 4
     unfolding locate_out
-    locate-room h = rw (fits, lt-leb (length entries) room h)
+    locate_room h = rw (fits, lt-leb (length entries) room h)
 
     module _ (enough : length entries ≤ room) where
-      pub locate-further : further < pair_count T.starts → locate_out s T entries room further ≡ refused 4
+      pub locate_further : further < pair_count T.starts → locate_out s T entries room further ≡ refused 4
       unfolding locate_out
-      locate-further h = rw (fits, le-leb (length entries) room enough, lt-leb (pair_count T.starts) further h)
+      locate_further h = rw (fits, le-leb (length entries) room enough, lt-leb (pair_count T.starts) further h)
 
       module _ (known : pair_count T.starts ≤ further) (last : List ℕ) (none_yet : last ≡ zeros (pair_count T.starts)) where
-        locate-run : (q : Option (List ℕ)) → locate_from s T last entries ≡ q → locate_out s T entries room further ≡ answers_from q
+        locate_run : (q : Option (List ℕ)) → locate_from s T last entries ≡ q → locate_out s T entries room further ≡ answers_from q
         unfolding locate_out locate_all
-        locate-run q e = rw (fits, le-leb (length entries) room enough, le-leb (pair_count T.starts) further known, ← none_yet, e)
+        locate_run q e = rw (fits, le-leb (length entries) room enough, le-leb (pair_count T.starts) further known, ← none_yet, e)
 
-        fault-by : (out : List ℕ) (q : Option (List ℕ)) → locate_from s T last entries ≡ q → none ≡ stored out 0 q
+        fault_by : (out : List ℕ) (q : Option (List ℕ)) → locate_from s T last entries ≡ q → none ≡ stored out 0 q
             → locate_out s T entries room further ≡ refused 15
-        fault-by out none e p = locate-run none e
-        fault-by out (some xs) e p = absurd (let z : ◌≡◌ {A = ℕ} 0 1 = cc in omega arith)
+        fault_by out none e p = locate_run none e
+        fault_by out (some xs) e p = absurd (let z : ◌≡◌ {A = ℕ} 0 1 = cc in omega arith)
 
-        pub locate-fault : (out : List ℕ) → none ≡ stored out 0 (locate_from s T last entries) → locate_out s T entries room further ≡ refused 15
-        locate-fault out p = fault-by out (locate_from s T last entries) refl p
+        pub locate_fault : (out : List ℕ) → none ≡ stored out 0 (locate_from s T last entries) → locate_out s T entries room further ≡ refused 15
+        locate_fault out p = fault_by out (locate_from s T last entries) refl p
 
         -- the answers, as the run has stored them
         pub record Ran (out' : List ℕ) : Type 0 where
@@ -80,18 +80,18 @@ module _ (s : List ℕ) (T : Tables) (entries : List ℕ) (room further : ℕ) w
           pub count : length list ≡ length entries
           pub words : out' ≡ padded room list
 
-        done-by : (out out' : List ℕ) → out ≡ zeros room → (q : Option (List ℕ)) → locate_from s T last entries ≡ q → some out' ≡ stored out 0 q
+        done_by : (out out' : List ℕ) → out ≡ zeros room → (q : Option (List ℕ)) → locate_from s T last entries ≡ q → some out' ≡ stored out 0 q
             → Ran out'
-        done-by out out' z none e p = absurd (let w : ◌≡◌ {A = ℕ} 0 1 = cc in omega arith)
-        done-by out out' z (some xs) e p =
+        done_by out out' z none e p = absurd (let w : ◌≡◌ {A = ℕ} 0 1 = cc in omega arith)
+        done_by out out' z (some xs) e p =
             let k : length xs ≡ length entries = answers_length s T entries last xs e in
             let w : out' ≡ sets out 0 xs = cc in
             record {
               list = xs;
-              outcome = locate-run (some xs) e;
+              outcome = locate_run (some xs) e;
               count = k;
               words = w ∙ sets_zeros room xs z (omega arith);
             }
 
-        pub locate-done : (out out' : List ℕ) → out ≡ zeros room → some out' ≡ stored out 0 (locate_from s T last entries) → Ran out'
-        locate-done out out' z p = done-by out out' z (locate_from s T last entries) refl p
+        pub locate_done : (out out' : List ℕ) → out ≡ zeros room → some out' ≡ stored out 0 (locate_from s T last entries) → Ran out'
+        locate_done out out' z p = done_by out out' z (locate_from s T last entries) refl p

@@ -17,7 +17,7 @@ use Rattle.dalvik.proofs.Payloads.{not_both}
 use Rattle.opcodes.proofs.Published.{units_published}
 use Rattle.insn_walk.specs.Walk.{units_by, payload_units, step}
 use Rattle.insn_walk.proofs.Payloads.{units_low, none_low}
-use Rattle.insn_walk.proofs.Steps.{payload_step, opcode-step}
+use Rattle.insn_walk.proofs.Steps.{payload_step, opcode_step}
 
 module _ (s : List ℕ) (B : Bytes s) (p : ℕ) where
   -- the two bytes of a unit
@@ -67,7 +67,7 @@ module _ (s : List ℕ) (B : Bytes s) (p : ℕ) where
 
   pub step_instruction : {n : ℕ} → Instruction s p n → p < length s → step s p ≡ some (p + 2 * n)
   step_instruction {n} i h =
-      opcode-step s p (none_by (ltb 0 (payload_units s p)) refl i) h n (units_published (byte s p) (B p) ∙ i.size) i.some_size
+      opcode_step s p (none_by (ltb 0 (payload_units s p)) refl i) h n (units_published (byte s p) (B p) ∙ i.size) i.some_size
 
   some_units : {n : ℕ} → Payload s p n → 0 < n
   some_units (packed_switch e) = omega arith

@@ -37,11 +37,11 @@ module _ (s : List ℕ) (p : ℕ) where
   step_outside h = sym (by_opcode (none_outside s p h) ∙ rw (le-ltb p (length s) h))
 
   module _ (no_payload : payload_units s p ≡ 0) (inside : p < length s) where
-    pub opcode-unknown : units_of (byte s p) ≡ 0 → step s p ≡ none
-    opcode-unknown e = by_opcode no_payload ∙ rw (lt-ltb p (length s) inside, e)
+    pub opcode_unknown : units_of (byte s p) ≡ 0 → step s p ≡ none
+    opcode_unknown e = by_opcode no_payload ∙ rw (lt-ltb p (length s) inside, e)
 
-    pub opcode-step : (n : ℕ) → units_of (byte s p) ≡ n → 0 < n → step s p ≡ some (p + 2 * n)
-    opcode-step n e l = by_opcode no_payload ∙ rw (lt-ltb p (length s) inside, e, lt-ltb 0 n l)
+    pub opcode_step : (n : ℕ) → units_of (byte s p) ≡ n → 0 < n → step s p ≡ some (p + 2 * n)
+    opcode_step n e l = by_opcode no_payload ∙ rw (lt-ltb p (length s) inside, e, lt-ltb 0 n l)
 
 -- a payload of four units at least, with fewer than eight bytes left
 pub data_cut : (s : List ℕ) (p : ℕ) → 4 ≤ payload_units s p → length s < p + 4 + 4 → step s p ≡ none
@@ -50,7 +50,7 @@ data_cut s p h l = payload_cut s p (payload_units s p) refl (omega arith) (omega
 -- nop takes a unit
 pub nop_step : (s : List ℕ) (p : ℕ) → payload_units s p ≡ 0 → p < length s → byte s p ≡ 0 → step s p ≡ some (p + 2)
 unfolding units_of
-nop_step s p e h z = opcode-step s p e h 1 (rw z) (omega arith)
+nop_step s p e h z = opcode_step s p e h 1 (rw z) (omega arith)
 
 -- ---- whatever stands there
 

@@ -148,15 +148,15 @@ module _ (s : List ℕ) (i : ℕ) where
 
   -- the law both ways, of a file's bytes
   module _ (B : Bytes s) where
-    fast-uleb : (v n : ℕ) → u.Number v n ≡ uleb_fast s i → Uleb128 s i v (i + n)
+    fast_uleb : (v n : ℕ) → u.Number v n ≡ uleb_fast s i → Uleb128 s i v (i + n)
     unfolding lim
-    fast-uleb v n e =
+    fast_uleb v n e =
         let stands = fast_stands (u.Number v n) e in
         record { number = stands.number; fits = stands.fits B }
 
     pub fast : (r : Uleb) → r ≡ uleb 4 s i → (r ≡ uleb_fast s i) × Published s i r
     unfolding uleb_fast
-    fast r e = (e, record { stands = λ v n q. fast-uleb v n (q ∙ e); accepted = λ v x n. e ∙ fast_published n })
+    fast r e = (e, record { stands = λ v n q. fast_uleb v n (q ∙ e); accepted = λ v x n. e ∙ fast_published n })
 
     pub len : (r : Len) → r ≡ bytes_of (uleb_fast s i) → (r ≡ uleb_len s i) × PublishedLen s i r
     unfolding uleb_len
@@ -165,7 +165,7 @@ module _ (s : List ℕ) (i : ℕ) where
       record {
         stands = λ n q.
             let number = len_number n (q ∙ e) in
-            (number.0, fast-uleb number.0 n number.1);
+            (number.0, fast_uleb number.0 n number.1);
         accepted = λ v x n. e ∙ len_published n;
       },
     )

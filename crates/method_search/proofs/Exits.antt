@@ -28,11 +28,11 @@ use Rattle.string_search.specs.Search.{Owns, search_fault}
 use Rattle.string_search.proofs.Listing.{owners_listed}
 use Rattle.type_search.specs.Types.{TypeFound, type_words, or_short, Searched as TypesSearched}
 use Rattle.type_search.proofs.Exits.{held_fit, held_set, held_few}
-use Rattle.type_search.proofs.Types.{types-found, short_fault, short_four, short_none}
+use Rattle.type_search.proofs.Types.{types_found, short_fault, short_four, short_none}
 use Rattle.method_search.specs.Steps.{Chosen, Selected}
 use Rattle.method_search.specs.Methods.{Asked, asked_fault, SearchWords, search_words, Lists, settles, lent_fault, Searched}
 use Rattle.method_search.proofs.Steps.{settles_given, settles_absent, Sound, sound}
-use Rattle.method_search.proofs.Fitting.{sieve_of, methods_listed, found-fit, fit_found}
+use Rattle.method_search.proofs.Fitting.{sieve_of, methods_listed, found_fit, fit_found}
 
 -- three slices, one after another; g is the length of the class
 either : (b : Bool) (k n m : ℕ) → k ≡ n → k ≡ m → k ≡ cond b n m
@@ -74,20 +74,20 @@ module _ (fault g : ℕ) (w : SearchWords) (l : Lists) where
             short_none (or_short fault (length w.strings) l.of_class) (length w.types) l.of_types
             (short_none fault (length w.strings) l.of_class z h) k
 
-        pub settled-none : settles g (length l.of_types) ≡ true → 0 ≡ lent_fault fault g w l
+        pub settled_none : settles g (length l.of_types) ≡ true → 0 ≡ lent_fault fault g w l
         unfolding lent_fault
-        settled-none s = rw s both
+        settled_none s = rw s both
 
         module _ (s : settles g (length l.of_types) ≡ false) where
-          pub third-short : (length w.strings) < length l.of_name → 4 ≡ lent_fault fault g w l
+          pub third_short : (length w.strings) < length l.of_name → 4 ≡ lent_fault fault g w l
           unfolding lent_fault
-          third-short m =
+          third_short m =
               rw s (short_four (or_short (or_short fault (length w.strings) l.of_class) (length w.types) l.of_types) (length w.strings)
               l.of_name both m)
 
-          pub none-short : length l.of_name ≤ (length w.strings) → 0 ≡ lent_fault fault g w l
+          pub none_short : length l.of_name ≤ (length w.strings) → 0 ≡ lent_fault fault g w l
           unfolding lent_fault
-          none-short m =
+          none_short m =
               rw s (short_none (or_short (or_short fault (length w.strings) l.of_class) (length w.types) l.of_types) (length w.strings)
               l.of_name both m)
 
@@ -139,7 +139,7 @@ found_out {P} {fault} {fault'} {r} {co} {out} {after} e l g =
 abbrev lists_of : Asked → Lists
 lists_of k = record {
   of_class = (owners_listed k.area k.query.class).list;
-  of_types = (types-found k.types k.area k.query.class).list;
+  of_types = (types_found k.types k.area k.query.class).list;
   of_name = (owners_listed k.area k.query.name).list;
 }
 
@@ -153,7 +153,7 @@ module _ (k : Asked) where
   exit_fault why h {before} {after} zs zt zo = record {
     lists = lists_of k;
     class_owners = (owners_listed k.area k.query.class).set;
-    class_types = (types-found k.types k.area k.query.class).set;
+    class_types = (types_found k.types k.area k.query.class).set;
     name_owners = (owners_listed k.area k.query.name).set;
     found = found_refused (methods_listed k) why _ (faulty (asked_fault k) class before (lists_of k) why h) zo;
     strings_cleared = zs;
@@ -169,10 +169,10 @@ module _ (k : Asked) where
     fault = search_fault (length k.area.file) 0 class k.area.keys
 
     -- the type search found too few words
-    pub exit-class : (why : Refusal) → r ≡ Refused why → (out : List ℕ) → out ≡ zeros (length out)
+    pub exit_class : (why : Refusal) → r ≡ Refused why → (out : List ℕ) → out ≡ zeros (length out)
         → Searched k (Refused LentTooShort) (search_words strings types out) (search_words cs' ct' out)
-    exit-class why h out zo =
-        let t = types-found k.types k.area k.query.class in
+    exit_class why h out zo =
+        let t = types_found k.types k.area k.query.class in
         let p = owners_listed k.area k.query.name in
         let before : SearchWords = search_words strings types out in
         let l : Lists = record { of_class = ts.strings; of_types = t.list; of_name = p.list } in
@@ -204,23 +204,23 @@ module _ (k : Asked) where
       types_few = omega (arith, whole.count, whole.fits)
 
       -- the lists, with all strings of the name
-      abbrev lists-all : Lists
-      lists-all = record { of_class = ts.strings; of_types = whole.list; of_name = (owners_listed k.area k.query.name).list }
+      abbrev lists_all : Lists
+      lists_all = record { of_class = ts.strings; of_types = whole.list; of_name = (owners_listed k.area k.query.name).list }
 
       -- a class that settles the result: no type was found, so no method fits
-      pub exit-settled : settles class t ≡ true → (out : List ℕ) → out ≡ zeros (length out)
+      pub exit_settled : settles class t ≡ true → (out : List ℕ) → out ≡ zeros (length out)
           → Searched k (Done 0) (search_words strings types out) (search_words cs' ct' out)
-      exit-settled y out zo =
+      exit_settled y out zo =
           let g = settled_by class t y in
           let none_found : (x : ℕ) → TypeFound k.area k.query.class k.types x → ⊥ =
           λ x f. let i = whole.set.complete x f in omega (arith, i.inside, whole.count, g.1) in
           record {
-            lists = lists-all;
+            lists = lists_all;
             class_owners = ts.owners;
             class_types = whole.set;
             name_owners = (owners_listed k.area k.query.name).set;
             found = found_none (λ x m. none_found (method_class_idx k.area.file k.methods.off x) (m.of_class g.0)) _
-                (settled-none (asked_fault k) class (search_words strings types out) lists-all none enough types_few (rw whole.count y)) zo;
+                (settled_none (asked_fault k) class (search_words strings types out) lists_all none enough types_few (rw whole.count y)) zo;
             strings_cleared = ts.cleared;
             types_cleared = whole.words ∙ ap (padded (length types)) (no_words _ (whole.count ∙ g.1)) ∙ padded_none (length types);
           }
@@ -228,20 +228,20 @@ module _ (k : Asked) where
       module _ (y : settles class t ≡ false) {cs'' : List ℕ} {r' : Answer}
           (f : Found (Owns k.area k.query.name) (search_fault (length k.area.file) 0 (length k.query.name) k.area.keys) r' cs' cs'') where
         -- the search for the name found too few words
-        pub exit-name : (why : Refusal) → r' ≡ Refused why → (ct'' : List ℕ) → ct'' ≡ zeros (length ct') → length ct' ≡ length types → (out : List ℕ)
+        pub exit_name : (why : Refusal) → r' ≡ Refused why → (ct'' : List ℕ) → ct'' ≡ zeros (length ct') → length ct' ≡ length types → (out : List ℕ)
             → out ≡ zeros (length out)
             → Searched k (Refused LentTooShort) (search_words strings types out) (search_words cs'' ct'' out)
-        exit-name why h ct'' zt kept out zo =
+        exit_name why h ct'' zt kept out zo =
             let p = owners_listed k.area k.query.name in
             let l : length cs' ≡ length strings = same in
             let m : length cs' < length p.list = found_over why r' h ok.name f p.list p.set in
             record {
-              lists = lists-all;
+              lists = lists_all;
               class_owners = ts.owners;
               class_types = whole.set;
               name_owners = p.set;
               found = found_refused (methods_listed k) LentTooShort _
-                  (third-short (asked_fault k) class (search_words strings types out) lists-all none enough types_few (rw whole.count y)
+                  (third_short (asked_fault k) class (search_words strings types out) lists_all none enough types_few (rw whole.count y)
                   (omega arith)) zo;
               strings_cleared = found_cleared why r' h f ∙ ap zeros same;
               types_cleared = zt ∙ ap zeros kept;
@@ -256,10 +256,10 @@ module _ (k : Asked) where
             clear = zo;
           }
 
-          pub exit-select : {cs''' ct'' : List ℕ} {r'' : Answer} {out out' : List ℕ}
+          pub exit_select : {cs''' ct'' : List ℕ} {r'' : Answer} {out out' : List ℕ}
               → Selected (sieve_of k (take t ct') (take n cs'')) k.methods.size r'' (search_words cs'' ct' out) (search_words cs''' ct'' out')
               → length ct' ≡ length types → length cs'' ≡ length cs' → Searched k r'' (search_words strings types out) (search_words cs''' ct'' out')
-          exit-select {cs'''} {ct''} {r''} {out} {out'} g kt kn =
+          exit_select {cs'''} {ct''} {r''} {out} {out'} g kt kn =
               let s : length cs' ≡ length strings = same in
               let tt = held_set ts.types t d in
               let nn = held_set f n b in
@@ -269,8 +269,8 @@ module _ (k : Asked) where
                 class_owners = ts.owners;
                 class_types = tt;
                 name_owners = nn;
-                found = found_same (found-fit k (take t ct') (take n cs'') tt nn) (fit_found k (take t ct') (take n cs'') tt nn)
-                    (none-short (asked_fault k) class (search_words strings types out) l none enough
+                found = found_same (found_fit k (take t ct') (take n cs'') tt nn) (fit_found k (take t ct') (take n cs'') tt nn)
+                    (none_short (asked_fault k) class (search_words strings types out) l none enough
                     (held_few ts.types t d) (rw (length-take-le t ct' (held_fit ts.types t d)) y) (omega (arith, held_few f n b)))
                     g.found;
                 strings_cleared = g.names_cleared ∙ ap zeros (kn ∙ same);

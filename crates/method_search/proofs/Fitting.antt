@@ -17,11 +17,11 @@ use Rattle.word_set.specs.Steps.{Decides, Matched}
 use Rattle.word_set.specs.declared.Insertion.{Insertion}
 use Rattle.word_set.specs.declared.Insertion.TheVariants.{Held, Full}
 use Rattle.word_set.proofs.Sets.{below_or_not, in_none, in_here, in_cons, in_cases, Listed, set_none, set_with, set_same}
-use Rattle.word_set.proofs.Collected.{Collected, collect-pass, collect-insert, collect-full}
+use Rattle.word_set.proofs.Collected.{Collected, collect_pass, collect_insert, collect_full}
 use Rattle.string_search.specs.Search.{Owns}
 use Rattle.string_search.proofs.Listing.{owners_listed}
 use Rattle.type_search.specs.Types.{TypeFound}
-use Rattle.type_search.proofs.Types.{types-found}
+use Rattle.type_search.proofs.Types.{types_found}
 use Rattle.method_search.specs.Steps.{Among, Sieve, sieve, Fits, Fitting, asked_count, Stepped, joined, passed}
 use Rattle.method_search.specs.Methods.{Asked, MethodFound}
 
@@ -40,16 +40,16 @@ among_or_not false xs x = inl (λ e. absurd (let z : ◌≡◌ {A = ℕ} 0 1 = c
 module _ (v : Sieve) where
   -- both tests of a method, with its class_idx and name_idx as they were read
   module _ (i x : ℕ) (ex : x ≡ method_class_idx v.file v.off i) (r : Bool) (d : Decides (Among v.by_class v.types x) r) where
-    pub class-other : r ≡ false → Decides (Fits v i) false
-    class-other e =
+    pub class_other : r ≡ false → Decides (Fits v i) false
+    class_other e =
         record {
           yes = λ h. absurd (let z : ◌≡◌ {A = ℕ} 0 1 = cc in omega arith);
           no = λ h f. d.no e (subst (Among v.by_class v.types) (sym ex) f.class);
         }
 
-    pub class-fits : r ≡ true → (y : ℕ) → y ≡ method_name_idx v.file v.off i → (t : Bool) → Decides (Among v.by_name v.names y) t
+    pub class_fits : r ≡ true → (y : ℕ) → y ≡ method_name_idx v.file v.off i → (t : Bool) → Decides (Among v.by_name v.names y) t
         → Decides (Fits v i) t
-    class-fits e y ey t g = record {
+    class_fits e y ey t g = record {
       yes = λ h. record { class = subst (Among v.by_class v.types) ex (d.yes e); name = subst (Among v.by_name v.names) ey (g.yes h) };
       no = λ h f. g.no h (subst (Among v.by_name v.names) (sym ey) f.name);
     }
@@ -106,14 +106,14 @@ module _ (v : Sieve) where
     module _ {room n i : ℕ} {out : List ℕ} (c : Collected (Fitting v count) (λ x. From i x) room n out) (h : i < count) where
       pub turn : {m : ℕ} {after : List ℕ} {r : Insertion} → Stepped (Fits v i) i n out after r → r ≡ Held m
           → Collected (Fitting v count) (λ x. From (i + 1) x) room m after
-      turn {m} {after} {r} (joined a ins) e = collect-insert c (later i) i (here i h a) after r ins m (cases i) e
+      turn {m} {after} {r} (joined a ins) e = collect_insert c (later i) i (here i h a) after r ins m (cases i) e
       turn {m} {after} {r} (passed a w b) e =
-          collect-pass c (later i)
+          collect_pass c (later i)
           (λ x d. ⊎_elim (λ (g : x ≡ i). absurd (a (subst (Fits v) g d.1.fits))) (λ (g : From (i + 1) x). g) (cases i x d)) w b e
 
       pub no_room : {after : List ℕ} {r : Insertion} → Stepped (Fits v i) i n out after r → r ≡ Full
           → (l : List ℕ) → SetOf (Fitting v count) l → room < length l
-      no_room {after} {r} (joined a ins) e = collect-full c (later i) i (here i h a) after r ins e
+      no_room {after} {r} (joined a ins) e = collect_full c (later i) i (here i h a) after r ins e
       no_room {after} {r} (passed a w b) e = absurd (let z : ◌≡◌ {A = ℕ} 0 1 = cc in omega arith)
 
 pub recount : {v : Sieve} {count count' : ℕ} {out out' : List ℕ} {r : Insertion} → count ≡ count' → Matched (Fitting v count) out out' r
@@ -133,9 +133,9 @@ module _ (k : Asked) where
     abbrev Fit : ℕ → Type 0
     Fit x = Fitting (sieve_of k types names) (asked_count k.methods.size (ltb 0 (length k.query.class)) (ltb 0 (length k.query.name))) x
 
-    some-asked : (x : ℕ) → x < asked_count k.methods.size (ltb 0 (length k.query.class)) (ltb 0 (length k.query.name))
+    some_asked : (x : ℕ) → x < asked_count k.methods.size (ltb 0 (length k.query.class)) (ltb 0 (length k.query.name))
         → (x < k.methods.size) × (0 < length k.query.class + length k.query.name)
-    some-asked x h =
+    some_asked x h =
         ⊎_elim (λ (c : 0 < length k.query.class). let q : ltb 0 (length k.query.class) ≡ true = lt-ltb 0 (length k.query.class) c in
         (rw q at h, omega arith))
         (λ (c : length k.query.class ≤ 0). let q : ltb 0 (length k.query.class) ≡ false = le-ltb 0 (length k.query.class) c in
@@ -155,9 +155,9 @@ module _ (k : Asked) where
         let p : ltb 0 (length k.query.name) ≡ true = lt-ltb 0 (length k.query.name) (omega arith) in rw (q, p) h)
         (below_or_not 0 (length k.query.class))
 
-    pub found-fit : (x : ℕ) → Fit x → MethodFound k x
-    found-fit x f =
-        let b = some-asked x f.below in
+    pub found_fit : (x : ℕ) → Fit x → MethodFound k x
+    found_fit x f =
+        let b = some_asked x f.below in
         record {
           below = b.0;
           given = b.1;
@@ -179,10 +179,10 @@ module _ (k : Asked) where
         let l =
         fitting_listed (sieve_of k types names)
         (asked_count k.methods.size (ltb 0 (length k.query.class)) (ltb 0 (length k.query.name))) in
-        record { list = l.list; set = set_same found-fit fit_found l.set }
+        record { list = l.list; set = set_same found_fit fit_found l.set }
 
   pub methods_listed : Listed (MethodFound k)
   methods_listed =
-      let t = types-found k.types k.area k.query.class in
+      let t = types_found k.types k.area k.query.class in
       let o = owners_listed k.area k.query.name in
       listed_here t.list o.list t.set o.set

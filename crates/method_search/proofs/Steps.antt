@@ -22,7 +22,7 @@ use Rattle.word_set.proofs.Sets.{is_in, not_in}
 use Rattle.refusal.proofs.Numbers.{numbered}
 use Rattle.word_set.specs.Steps.{Decides}
 use Rattle.string_search.specs.Search.{search_fault}
-use Rattle.string_search.proofs.Faults.{no_fault, fault-none}
+use Rattle.string_search.proofs.Faults.{no_fault, fault_none}
 use Rattle.method_search.specs.Steps.{Among}
 use Rattle.method_search.specs.Methods.{method_fault, settles}
 
@@ -65,8 +65,8 @@ sound len methods c n ks e =
     let ok = no_fault len 0 (max c n) ks (sym (eqb-true (search_fault len 0 (max c n) ks) 0 h)) in
     let l : is_too_large len ≡ false = le-ltb largest_file len ok.small in
     record {
-      class = fault-none len 0 c ks l (omega arith) (omega (arith, ok.short)) ok.good;
-      name = fault-none len 0 n ks l (omega arith) (omega (arith, ok.short)) ok.good;
+      class = fault_none len 0 c ks l (omega arith) (omega (arith, ok.short)) ok.good;
+      name = fault_none len 0 n ks l (omega arith) (omega (arith, ok.short)) ok.good;
     })
     (λ (h : eqb (search_fault len 0 (max c n) ks) 0 ≡ false). absurd (eqb-false (search_fault len 0 (max c n) ks) 0 h (sym (rw h at e))))
     (case (eqb (search_fault len 0 (max c n) ks) 0))

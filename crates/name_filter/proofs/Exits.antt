@@ -32,8 +32,8 @@ module _ (s q given : List ℕ) (count table : ℕ) (c : count ≡ le32 s 0x38) 
         subst (λ (i : ℕ). Sifted (Named s i q given) (filter_fault s q given) mid out' r) t
         (subst (λ (n : ℕ). Sifted (Named s table q given) n mid out' r) number m)
 
-    pub exit-done : (n : ℕ) → r ≡ answer.Done n → Found (Named s (le32 s 0x3c) q given) (filter_fault s q given) (answer.Done n) before out'
-    exit-done n e = go here
+    pub exit_done : (n : ℕ) → r ≡ answer.Done n → Found (Named s (le32 s 0x3c) q given) (filter_fault s q given) (answer.Done n) before out'
+    exit_done n e = go here
       where
         go : Sifted (Named s (le32 s 0x3c) q given) (filter_fault s q given) mid out' r
             → Found (Named s (le32 s 0x3c) q given) (filter_fault s q given) (answer.Done n) before out'
@@ -44,9 +44,9 @@ module _ (s q given : List ℕ) (count table : ℕ) (c : count ≡ le32 s 0x38) 
         go (short f y more) = absurd (let x : ◌≡◌ {A = ℕ} 0 1 = cc in omega arith)
         go (stopped why f y) = absurd (let x : ◌≡◌ {A = ℕ} 0 1 = cc in omega arith)
 
-    pub exit-refused : (why : Refusal) → r ≡ answer.Refused why → (after : List ℕ) → length out' ≡ length mid → after ≡ zeros (length out')
+    pub exit_refused : (why : Refusal) → r ≡ answer.Refused why → (after : List ℕ) → length out' ≡ length mid → after ≡ zeros (length out')
         → Found (Named s (le32 s 0x3c) q given) (filter_fault s q given) (answer.Refused why) before after
-    exit-refused why e after k u = go here
+    exit_refused why e after k u = go here
       where
         cleared : after ≡ zeros (length before)
         cleared = u ∙ ap zeros (k ∙ same)

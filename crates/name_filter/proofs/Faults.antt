@@ -35,21 +35,21 @@ module _ (s : List ℕ) (asked : Bool) (f : Found) where
   text_refused why e = rw (← e, numbered why)
 
   module _ (a n : ℕ) (e : found a n ≡ f) where
-    pub text-any : asked ≡ false → 0 ≡ text_fault s asked f
+    pub text_any : asked ≡ false → 0 ≡ text_fault s asked f
     unfolding text_fault
-    text-any h = rw (← e, h)
+    text_any h = rw (← e, h)
 
-    pub text-ascii : is_ascii (stretch_of s f) ≡ true → 0 ≡ text_fault s asked f
+    pub text_ascii : is_ascii (stretch_of s f) ≡ true → 0 ≡ text_fault s asked f
     unfolding text_fault
-    text-ascii h = ascii asked (stretch_of s f) h
+    text_ascii h = ascii asked (stretch_of s f) h
       where
         ascii : (b : Bool) (l : List ℕ) → is_ascii l ≡ true → 0 ≡ cond (eqb f.number 0) (cond (b && not (is_ascii l)) 11 0) f.number
         ascii true l g = rw (← e, g)
         ascii false l g = rw (← e)
 
-    pub text-not-ascii : asked ≡ true → is_ascii (stretch_of s f) ≡ false → 11 ≡ text_fault s asked f
+    pub text_not_ascii : asked ≡ true → is_ascii (stretch_of s f) ≡ false → 11 ≡ text_fault s asked f
     unfolding text_fault
-    text-not-ascii h g =
+    text_not_ascii h g =
         let z : eqb f.number 0 ≡ true = rw (← e) refl in
         rw (h, g, z)
 
@@ -74,19 +74,19 @@ judged_at {s} {q} {f} {f'} {r} e j = subst (λ (g : Found). Judged s q g r) e j
 module _ (s q : List ℕ) (a n : ℕ) where
   pub judged_empty : length q < 1 → Judged s q (found a n) (v.Known true)
   judged_empty h =
-      judged_known s q (found a n) true (text-any s (ltb 0 (length q)) (found a n) a n refl (le-ltb 0 (length q) (omega arith))) record
+      judged_known s q (found a n) true (text_any s (ltb 0 (length q)) (found a n) a n refl (le-ltb 0 (length q) (omega arith))) record
       { yes = λ e. has_empty_of (stretch_of s (found a n)) q (omega arith); no = λ e. absurd (let z : ◌≡◌ {A = ℕ} 0 1 = cc in omega arith) }
 
   module _ (text : List ℕ) (t : text ≡ stretch_of s (found a n)) where
-    pub judged-ascii : (b : Bool) → is_ascii text ≡ true → Decides (HasName text q) b → Judged s q (found a n) (v.Known b)
-    judged-ascii b g d =
-        judged_known s q (found a n) b (text-ascii s (ltb 0 (length q)) (found a n) a n refl (sym (ap is_ascii t) ∙ g))
+    pub judged_ascii : (b : Bool) → is_ascii text ≡ true → Decides (HasName text q) b → Judged s q (found a n) (v.Known b)
+    judged_ascii b g d =
+        judged_known s q (found a n) b (text_ascii s (ltb 0 (length q)) (found a n) a n refl (sym (ap is_ascii t) ∙ g))
         (subst (λ (l : List ℕ). Decides (HasName l q) b) t d)
 
-    pub judged-other : 1 ≤ length q → is_ascii text ≡ false → Judged s q (found a n) (v.Refused NotAscii)
-    judged-other h g =
+    pub judged_other : 1 ≤ length q → is_ascii text ≡ false → Judged s q (found a n) (v.Refused NotAscii)
+    judged_other h g =
         judged_refused s q (found a n) NotAscii
-        (text-not-ascii s (ltb 0 (length q)) (found a n) a n refl (lt-ltb 0 (length q) (omega arith)) (sym (ap is_ascii t) ∙ g))
+        (text_not_ascii s (ltb 0 (length q)) (found a n) a n refl (lt-ltb 0 (length q) (omega arith)) (sym (ap is_ascii t) ∙ g))
 
 -- the given indices, from the i-th on
 module _ (s : List ℕ) (count table : ℕ) (asked : Bool) (given : List ℕ) (i : ℕ) where
@@ -95,15 +95,15 @@ module _ (s : List ℕ) (count table : ℕ) (asked : Bool) (given : List ℕ) (i
   fault_end h = rw (drop_of_length-le given h)
 
   module _ (h : i < length given) where
-    pub fault-index : count ≤ get_or given i 0 → 13 ≡ first_fault s count table asked (drop i given)
+    pub fault_index : count ≤ get_or given i 0 → 13 ≡ first_fault s count table asked (drop i given)
     unfolding first_fault
-    fault-index k = rw (drop-cons given i 0 h, le-ltb (get_or given i 0) count k)
+    fault_index k = rw (drop-cons given i 0 h, le-ltb (get_or given i 0) count k)
 
-    pub fault-text : get_or given i 0 < count → (why : Refusal)
+    pub fault_text : get_or given i 0 < count → (why : Refusal)
         → refusal_number why ≡ text_fault s asked (string_text s (string_data_off s table (get_or given i 0)))
         → refusal_number why ≡ first_fault s count table asked (drop i given)
     unfolding first_fault
-    fault-text k why e = rw (drop-cons given i 0 h, lt-ltb (get_or given i 0) count k, ← e, numbered why)
+    fault_text k why e = rw (drop-cons given i 0 h, lt-ltb (get_or given i 0) count k, ← e, numbered why)
 
     pub fault_next : get_or given i 0 < count → 0 ≡ text_fault s asked (string_text s (string_data_off s table (get_or given i 0)))
         → first_fault s count table asked (drop i given) ≡ first_fault s count table asked (drop (i + 1) given)
@@ -117,26 +117,26 @@ module _ (s q : List ℕ) where
   head_large l = rw l
 
   module _ (l : is_too_large (length s) ≡ false) where
-    pub head-short : length s < 0x70 → 3 ≡ head_fault s q
+    pub head_short : length s < 0x70 → 3 ≡ head_fault s q
     unfolding head_fault
-    head-short h = rw (l, lt-ltb (length s) 0x70 h)
+    head_short h = rw (l, lt-ltb (length s) 0x70 h)
 
-    pub head-table : length s < item (le32 s 0x3c) string_id_size (le32 s 0x38) → 3 ≡ head_fault s q
+    pub head_table : length s < item (le32 s 0x3c) string_id_size (le32 s 0x38) → 3 ≡ head_fault s q
     unfolding head_fault
-    head-table h = rw (l, or_right (ltb (length s) 0x70) (ltb (length s) (item (le32 s 0x3c) string_id_size (le32 s 0x38))) (lt-ltb _ _ h))
+    head_table h = rw (l, or_right (ltb (length s) 0x70) (ltb (length s) (item (le32 s 0x3c) string_id_size (le32 s 0x38))) (lt-ltb _ _ h))
 
     module _ (h : 0x70 ≤ length s) (k : item (le32 s 0x3c) string_id_size (le32 s 0x38) ≤ length s) where
-      pub head-long : 255 < length q → 9 ≡ head_fault s q
+      pub head_long : 255 < length q → 9 ≡ head_fault s q
       unfolding head_fault
-      head-long b = rw (l, le-ltb _ _ h, le-ltb _ _ k, lt-ltb _ _ b)
+      head_long b = rw (l, le-ltb _ _ h, le-ltb _ _ k, lt-ltb _ _ b)
 
-      pub head-query : length q ≤ 255 → is_ascii q ≡ false → 9 ≡ head_fault s q
+      pub head_query : length q ≤ 255 → is_ascii q ≡ false → 9 ≡ head_fault s q
       unfolding head_fault
-      head-query b g = rw (l, le-ltb _ _ h, le-ltb _ _ k, le-ltb _ _ b, g)
+      head_query b g = rw (l, le-ltb _ _ h, le-ltb _ _ k, le-ltb _ _ b, g)
 
-      pub head-none : length q ≤ 255 → is_ascii q ≡ true → 0 ≡ head_fault s q
+      pub head_none : length q ≤ 255 → is_ascii q ≡ true → 0 ≡ head_fault s q
       unfolding head_fault
-      head-none b g = rw (l, le-ltb _ _ h, le-ltb _ _ k, le-ltb _ _ b, g)
+      head_none b g = rw (l, le-ltb _ _ h, le-ltb _ _ k, le-ltb _ _ b, g)
 
 -- what no fault of the head says
 pub record Sound (s : List ℕ) : Type 0 where
@@ -148,9 +148,9 @@ pub no_fault : (s q : List ℕ) → 0 ≡ head_fault s q → Sound s
 no_fault s q e =
     ⊎_elim (λ (l : is_too_large (length s) ≡ true). absurd (let f = head_large s q l in let z : ◌≡◌ {A = ℕ} 0 1 = cc in omega arith))
     (λ (l : is_too_large (length s) ≡ false). ⊎_elim
-    (λ (h : length s < 0x70). absurd (let f = head-short s q l h in let z : ◌≡◌ {A = ℕ} 0 3 = cc in omega arith))
+    (λ (h : length s < 0x70). absurd (let f = head_short s q l h in let z : ◌≡◌ {A = ℕ} 0 3 = cc in omega arith))
     (λ (h : 0x70 ≤ length s). ⊎_elim (λ (k : length s < item (le32 s 0x3c) string_id_size (le32 s 0x38)). absurd
-    (let f = head-table s q l k in let z : ◌≡◌ {A = ℕ} 0 3 = cc in omega arith))
+    (let f = head_table s q l k in let z : ◌≡◌ {A = ℕ} 0 3 = cc in omega arith))
     (λ (k : item (le32 s 0x3c) string_id_size (le32 s 0x38) ≤ length s). record { small = ltb-false largest_file (length s) l; header = h; ids = k })
     (below_or_not (length s) (item (le32 s 0x3c) string_id_size (le32 s 0x38))))
     (below_or_not (length s) 0x70))

@@ -121,19 +121,19 @@ module _ (text q : List ℕ) where
     some : 0 < length q
     some = ⊎_elim (λ (h : 0 < length q). h) (λ (h : length q ≤ 0). absurd (z (omega arith))) (below_or_not 0 (length q))
 
-    pub search-start : (r : ℕ) → First (Either a b text) 0 (min (length text - length q + 1) (length text)) r
+    pub search_start : (r : ℕ) → First (Either a b text) 0 (min (length text - length q + 1) (length text)) r
         → (r ≤ length text - length q + 1) × ((k : ℕ) → k < r → Stands (map lower_case text) (map lower_case q) k → ⊥)
-    search-start r f = (omega (arith, f.inside), name_passed text q a b _ some e c r f)
+    search_start r f = (omega (arith, f.inside), name_passed text q a b _ some e c r f)
 
-    pub search-next : (p r : ℕ) → First (Either a b text) (p + 1) (min (length text - length q + 1) (length text)) r
+    pub search_next : (p r : ℕ) → First (Either a b text) (p + 1) (min (length text - length q + 1) (length text)) r
         → ((k : ℕ) → k < p → Stands (map lower_case text) (map lower_case q) k → ⊥) → (Stands (map lower_case text) (map lower_case q) p → ⊥)
         → (r ≤ length text - length q + 1) × ((k : ℕ) → k < r → Stands (map lower_case text) (map lower_case q) k → ⊥)
-    search-next p r f g n = (omega (arith, f.inside), name_passed_on text q a b _ some e c p r f g n)
+    search_next p r f g n = (omega (arith, f.inside), name_passed_on text q a b _ some e c p r f g n)
 
-    pub search-less : (p r : ℕ) → length q ≤ length text → p < length text - length q + 1
+    pub search_less : (p r : ℕ) → length q ≤ length text → p < length text - length q + 1
         → First (Either a b text) (p + 1) (min (length text - length q + 1) (length text)) r
         → (length text - length q + 1) - r < (length text - length q + 1) - p
-    search-less p r h l f =
+    search_less p r h l f =
         let s = some in
         let o : p + 1 ≤ r = onward (omega arith) f in
         omega arith

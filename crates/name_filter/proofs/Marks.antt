@@ -1,7 +1,7 @@
 -- The strings seen: none at first, one more with each that is looked at, and in the end the given indices.
---     marks_none, look_known, look-refused, look-noted    what is known of strings
---     passed_none, passed-next                            the given indices, one after another
---     passed_all, passed-index, passed_fault              .. and the ways out
+--     marks_none, look_known, look_refused, look_noted    what is known of strings
+--     passed_none, passed_next                            the given indices, one after another
+--     passed_all, passed_index, passed_fault              .. and the ways out
 -- Assumes nothing.
 use Prim.Native.Nat.{ℕ, ◌+◌, ◌*◌, ◌≤◌, ◌<◌}
 use native.Mathlib.Omega.{arith}
@@ -25,7 +25,7 @@ use Rattle.word_set.specs.declared.Fault.TheVariants as fault
 use Rattle.word_set.specs.Steps.{Decides}
 use Rattle.word_set.specs.Found.{fault_number}
 use Rattle.name_filter.specs.Faults.{first_fault}
-use Rattle.name_filter.proofs.Faults.{fault_end, fault-index, fault-text, fault_next}
+use Rattle.name_filter.proofs.Faults.{fault_end, fault_index, fault_text, fault_next}
 use Rattle.name_filter.specs.Steps.{Names, fault_of, HasNameAt, Noted, Room, Marks, Looked, Unmarked, Seen, AllLooked}
 
 pub nonzero : (why : Refusal) → refusal_number why ≡ 0 → ⊥
@@ -70,47 +70,47 @@ module _ {k : Names} where
     pub look_known : is_held seen x ≡ true → Looked k x seen seen has fault.Nothing
     look_known h = record { fault = t.good x h; marks = t; now_seen = λ z. h; kept = λ y z. z; only = λ y z. inl z }
 
-    pub look-refused : (why : Refusal) → refusal_number why ≡ fault_of k x → Looked k x seen seen has (fault.Refused why)
-    look-refused why e = record { fault = e; marks = t; now_seen = λ z. absurd (nonzero why z); kept = λ y z. z; only = λ y z. inl z }
+    pub look_refused : (why : Refusal) → refusal_number why ≡ fault_of k x → Looked k x seen seen has (fault.Refused why)
+    look_refused why e = record { fault = e; marks = t; now_seen = λ z. absurd (nonzero why z); kept = λ y z. z; only = λ y z. inl z }
 
     module _ (new : is_held seen x ≡ false) (b : Bool) (e : 0 ≡ fault_of k x) (d : Decides (HasNameAt k x) b) {seen' has' : List ℕ} (n : Noted x b seen has seen' has') where
       seen_here : is_held seen' x ≡ true
       seen_here = n.seen_at x ∙ ap (λ (c : Bool). is_held seen x || c) (eq-eqb x x refl) ∙ or_true (is_held seen x)
 
       -- no other string was seen to have the name before it was looked at
-      has-not : is_held has x ≡ false
-      has-not = ⊎_elim (λ (h : is_held has x ≡ true). absurd (clash (t.among x h) new)) (λ (h : is_held has x ≡ false). h) (case (is_held has x))
+      has_not : is_held has x ≡ false
+      has_not = ⊎_elim (λ (h : is_held has x ≡ true). absurd (clash (t.among x h) new)) (λ (h : is_held has x ≡ false). h) (case (is_held has x))
 
       has_here : is_held has' x ≡ b
-      has_here = n.has_at x ∙ rw (has-not, eq-eqb x x refl) (and_true b)
+      has_here = n.has_at x ∙ rw (has_not, eq-eqb x x refl) (and_true b)
 
-      seen-there : (y : ℕ) → eqb y x ≡ false → is_held seen' y ≡ is_held seen y
-      seen-there y f = n.seen_at y ∙ ap (λ (c : Bool). is_held seen y || c) f ∙ or_false (is_held seen y)
+      seen_there : (y : ℕ) → eqb y x ≡ false → is_held seen' y ≡ is_held seen y
+      seen_there y f = n.seen_at y ∙ ap (λ (c : Bool). is_held seen y || c) f ∙ or_false (is_held seen y)
 
       has_there : (y : ℕ) → eqb y x ≡ false → is_held has' y ≡ is_held has y
       has_there y f =
           n.has_at y ∙ ap (λ (c : Bool). is_held has y || (b && c)) f ∙ ap (λ (c : Bool). is_held has y || c) (and_false b) ∙ or_false (is_held has y)
 
-      marks-now : Marks k seen' has'
-      marks-now = record {
+      marks_now : Marks k seen' has'
+      marks_now = record {
         good = λ y h. ⊎_elim (λ (f : eqb y x ≡ true). subst (λ (z : ℕ). 0 ≡ fault_of k z) (sym (eqb-true y x f)) e)
-            (λ (f : eqb y x ≡ false). t.good y (sym (seen-there y f) ∙ h)) (case (eqb y x));
+            (λ (f : eqb y x ≡ false). t.good y (sym (seen_there y f) ∙ h)) (case (eqb y x));
         says = λ y h. ⊎_elim
             (λ (f : eqb y x ≡ true). subst (λ (z : ℕ). Decides (HasNameAt k z) (is_held has' z)) (sym (eqb-true y x f))
             (subst (Decides (HasNameAt k x)) (sym has_here) d))
-            (λ (f : eqb y x ≡ false). subst (Decides (HasNameAt k y)) (sym (has_there y f)) (t.says y (sym (seen-there y f) ∙ h))) (case (eqb y x));
+            (λ (f : eqb y x ≡ false). subst (Decides (HasNameAt k y)) (sym (has_there y f)) (t.says y (sym (seen_there y f) ∙ h))) (case (eqb y x));
         among = λ y h. ⊎_elim (λ (f : eqb y x ≡ true). subst (λ (z : ℕ). is_held seen' z ≡ true) (sym (eqb-true y x f)) seen_here)
-            (λ (f : eqb y x ≡ false). seen-there y f ∙ t.among y (sym (has_there y f) ∙ h)) (case (eqb y x));
+            (λ (f : eqb y x ≡ false). seen_there y f ∙ t.among y (sym (has_there y f) ∙ h)) (case (eqb y x));
       }
 
-      pub look-noted : Looked k x seen seen' has' fault.Nothing
-      look-noted = record {
+      pub look_noted : Looked k x seen seen' has' fault.Nothing
+      look_noted = record {
         fault = e;
-        marks = marks-now;
+        marks = marks_now;
         now_seen = λ z. seen_here;
         kept = λ y h. n.seen_at y ∙ rw h;
         only =
-            λ y h. ⊎_elim (λ (f : eqb y x ≡ true). inr (eqb-true y x f)) (λ (f : eqb y x ≡ false). inl (sym (seen-there y f) ∙ h)) (case (eqb y x));
+            λ y h. ⊎_elim (λ (f : eqb y x ≡ true). inr (eqb-true y x f)) (λ (f : eqb y x ≡ false). inl (sym (seen_there y f) ∙ h)) (case (eqb y x));
       }
 
 -- the given indices, one after another: the ways out
@@ -173,20 +173,20 @@ module _ {k : Names} {count : ℕ} {given seen has : List ℕ} {before : Bits} {
       all_none count given i (fault_end k.file count k.table (ltb 0 (length k.query)) given i h ∙ p.rest) p.marks p.seen_so_far h
 
   module _ (h : i < length given) where
-    pub passed-index : count ≤ get_or given i 0 → AllLooked k count given seen has (fault.Refused StringIndex)
-    passed-index l =
-        all_refused count given StringIndex (fault-index k.file count k.table (ltb 0 (length k.query)) given i h l ∙ p.rest) p.marks
+    pub passed_index : count ≤ get_or given i 0 → AllLooked k count given seen has (fault.Refused StringIndex)
+    passed_index l =
+        all_refused count given StringIndex (fault_index k.file count k.table (ltb 0 (length k.query)) given i h l ∙ p.rest) p.marks
 
     module _ (l : get_or given i 0 < count) {seen' has' : List ℕ} {r : Fault} (look : Looked k (get_or given i 0) seen seen' has' r) where
       pub passed_fault : (why : Refusal) → r ≡ fault.Refused why → AllLooked k count given seen' has' (fault.Refused why)
       passed_fault why e =
           all_refused count given why
-          (fault-text k.file count k.table (ltb 0 (length k.query)) given i h l why (sym (ap fault_number e) ∙ look.fault) ∙ p.rest)
+          (fault_text k.file count k.table (ltb 0 (length k.query)) given i h l why (sym (ap fault_number e) ∙ look.fault) ∙ p.rest)
           look.marks
 
-      pub passed-next : r ≡ fault.Nothing → length seen' ≡ length seen → length has' ≡ length has
+      pub passed_next : r ≡ fault.Nothing → length seen' ≡ length seen → length has' ≡ length has
           → Passed k count given before (bits seen' has') (i + 1)
-      passed-next e a b = record {
+      passed_next e a b = record {
         rest = sym (fault_next k.file count k.table (ltb 0 (length k.query)) given i h l (sym (ap fault_number e) ∙ look.fault)) ∙ p.rest;
         inside = omega arith;
         marks = look.marks;

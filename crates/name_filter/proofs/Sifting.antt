@@ -55,8 +55,8 @@ module _ {k : Names} {count : ℕ} {given seen has : List ℕ} {r : Fault} (a : 
     named : Matched (Named k.file k.table k.query given) out after g
     named = matched_same held_named named_held (joined_none (gathered has small (holding_none out clear) j))
 
-    pub sift-done : (n : ℕ) → g ≡ Held n → SiftedOf k count given out after (answer.Done n)
-    sift-done n e = go named
+    pub sift_done : (n : ℕ) → g ≡ Held n → SiftedOf k count given out after (answer.Done n)
+    sift_done n e = go named
       where
         go : Matched (Named k.file k.table k.query given) out after g → SiftedOf k count given out after (answer.Done n)
         go (all j f w) =
@@ -64,8 +64,8 @@ module _ {k : Names} {count : ℕ} {given seen has : List ℕ} {r : Fault} (a : 
             (subst (λ (m : ℕ). Whole (Named k.file k.table k.query given) m out after) i w)
         go (over f more) = absurd (let y : ◌≡◌ {A = ℕ} 0 1 = cc in omega arith)
 
-    pub sift-short : g ≡ Full → SiftedOf k count given out after (answer.Refused LentTooShort)
-    sift-short e = go named
+    pub sift_short : g ≡ Full → SiftedOf k count given out after (answer.Refused LentTooShort)
+    sift_short e = go named
       where
         go : Matched (Named k.file k.table k.query given) out after g → SiftedOf k count given out after (answer.Refused LentTooShort)
         go (all k f w) = absurd (let y : ◌≡◌ {A = ℕ} 0 1 = cc in omega arith)

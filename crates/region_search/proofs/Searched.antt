@@ -109,8 +109,8 @@ module _ (s : List ℕ) (A : Asked) (T : Tables) (before : SearchWords) where
     counted : k ≡ length scan_of.hits
     counted = ap answer_count (sym e) ∙ G.count
 
-    first-offsets : take k hits.offs ≡ offs scan_of.hits
-    first-offsets =
+    first_offsets : take k hits.offs ≡ offs scan_of.hits
+    first_offsets =
         ap (take k) G.starts ∙ take_padded (length before.hits.offs) k (offs scan_of.hits) (counted ∙ sym (length_offs scan_of.hits))
 
     by_answer : (q : Answer) (after : SearchWords) → length hits.offs ≡ length before.hits.offs
@@ -138,15 +138,15 @@ module _ (s : List ℕ) (A : Asked) (T : Tables) (before : SearchWords) where
         })
 
     -- vs are the start words passed on, and locate was lent cleared words
-    pub search-located : (q : Answer) (vs : List ℕ) (cleared : LocateWords) (after : SearchWords) → vs ≡ T.starts
+    pub search_located : (q : Answer) (vs : List ℕ) (cleared : LocateWords) (after : SearchWords) → vs ≡ T.starts
         → length hits.offs ≡ length before.hits.offs → length hits.marks ≡ length before.hits.marks
         → length cleared.further ≡ length before.located.further → length cleared.answers ≡ length before.located.answers
         → LocatesHits (locate_out s (tables T.base T.slots vs T.shares) (take k hits.offs)
         (length cleared.answers) (length cleared.further))
         k q (search_words hits cleared) after
         → GivesSearch goal q before after
-    search-located q vs cleared after v lo lm lf la L =
-        let M : LocatesHits locate_of k q (search_words hits cleared) after = rw (v, first-offsets, lf, la) at L in
+    search_located q vs cleared after v lo lm lf la L =
+        let M : LocatesHits locate_of k q (search_words hits cleared) after = rw (v, first_offsets, lf, la) at L in
         by_answer q after lo lm
         (record {
           number = M.number;

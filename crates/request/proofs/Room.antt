@@ -57,11 +57,11 @@ few_ended m s (listed vs b) f = few_end m vs (line_end s b) f
 
 few_line : (s : List ℕ) (i : ℕ) → Few 16 (index_line s i)
 unfolding index_line
-few_line s i = few-word (λ a. ended s (indices_at 16 s a)) (word_at index= s i) (λ a. few_ended 16 s (indices_at 16 s a) (few_indices 16 s a))
+few_line s i = few_word (λ a. ended s (indices_at 16 s a)) (word_at index= s i) (λ a. few_ended 16 s (indices_at 16 s a) (few_indices 16 s a))
   where
-    few-word : (g : ℕ → Listed) (w : Place) → ((a : ℕ) → Few 16 (g a)) → Few 16 (on_place w none g)
-    few-word g (p.At a) f = f a
-    few-word g p.Nothing f = tt
+    few_word : (g : ℕ → Listed) (w : Place) → ((a : ℕ) → Few 16 (g a)) → Few 16 (on_place w none g)
+    few_word g (p.At a) f = f a
+    few_word g p.Nothing f = tt
 
 -- the same of a whole request
 abbrev FewSaid : Said → Type 0
@@ -70,11 +70,11 @@ FewSaid malformed = Unit {0}
 
 few_end : (s : List ℕ) (d : DexHeader) (k : ℕ) (l : Listed) → Few 16 l → FewSaid (to_the_end s d k l)
 few_end s d k none f = tt
-few_end s d k (listed vs c) f = few-cond (eqb c (length s)) f
+few_end s d k (listed vs c) f = few_cond (eqb c (length s)) f
   where
-    few-cond : (b : Bool) → length vs ≤ 16 → FewSaid (cond b (said d k vs) malformed)
-    few-cond true f = f
-    few-cond false f = tt
+    few_cond : (b : Bool) → length vs ≤ 16 → FewSaid (cond b (said d k vs) malformed)
+    few_cond true f = f
+    few_cond false f = tt
 
 few_kind : (s : List ℕ) (d : DexHeader) (w : Number) → FewSaid (on_number w malformed (λ k b. to_the_end s d k (index_line s b)))
 few_kind s d (n.Value k b) = few_end s d k (index_line s b) (few_line s b)

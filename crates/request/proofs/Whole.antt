@@ -51,8 +51,8 @@ module _ (s : List ℕ) (room : ℕ) where
         all : ReadAll ws us m c (index_line s b)
         all = read_all ws us m c (index_line s b) g
 
-        pub more-text : (c ≡ length s → ⊥) → request_of s room ≡ refused 14
-        more-text q = bad (lines ∙ (ap (to_the_end s d k) all.is ∙ simp (ne_eqb c (length s) q)))
+        pub more_text : (c ≡ length s → ⊥) → request_of s room ≡ refused 14
+        more_text q = bad (lines ∙ (ap (to_the_end s d k) all.is ∙ simp (ne_eqb c (length s) q)))
 
         module _ (q : c ≡ length s) where
           whole : request_of s room ≡ fitted room (said d k all.list)
@@ -61,14 +61,14 @@ module _ (s : List ℕ) (room : ℕ) where
               let e : said_by s ≡ said d k all.list = lines ∙ (ap (to_the_end s d k) all.is ∙ simp (eq-eqb c (length s) q)) in
               ap (fitted room) e
 
-          pub more-indices : room < m → request_of s room ≡ refused 4
-          more-indices h =
+          pub more_indices : room < m → request_of s room ≡ refused 4
+          more_indices h =
               let l : room < length all.list = omega (arith, all.counted) in
               whole ∙ simp (lt-leb (length all.list) room l)
 
           -- the words were zero before
-          pub says-asked : m ≤ room → ws ≡ zeros room → (before : List ℕ) → length before ≡ room → Says (request_of s room) (Asked d k m) before us
-          says-asked h w before t =
+          pub says_asked : m ≤ room → ws ≡ zeros room → (before : List ℕ) → length before ≡ room → Says (request_of s room) (Asked d k m) before us
+          says_asked h w before t =
               let l : length all.list ≤ room = omega (arith, all.counted) in
               rw (whole, le-leb (length all.list) room l) (record {
                 number = refl;

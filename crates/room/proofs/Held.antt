@@ -14,7 +14,7 @@ use Rattle.room.proofs.Searches as s
 use Rattle.room.proofs.Codes.{build_more, build_enough}
 use Rattle.room.proofs.Located.{scan_more, scan_enough, locate_more, locate_enough, list_more, list_enough}
 use Rattle.room.proofs.Finder.{find_more}
-use Rattle.room.proofs.Texts.{entry_more, entries-more}
+use Rattle.room.proofs.Texts.{entry_more, entries_more}
 
 pub more_room : MoreRoom
 more_room = record {
@@ -38,7 +38,7 @@ more_room = record {
   entry_text = λ off idx mids m n h. entry_room m n h off idx mids;
   refusal_text = λ why m n h. refusal_room m n h why;
   line = λ E w b w' b' i h k. entry_more w b w' b' h k E i;
-  lines = λ E w b w' b' h k. entries-more w b w' b' h k E;
+  lines = λ E w b w' b' h k. entries_more w b w' b' h k E;
 }
 
 pub no_four : NoFour
@@ -48,7 +48,7 @@ no_four = record {
   method_groups = g.methods_enough;
   string_map = λ f h keys. g.map_enough f h.strings.off h.strings.size keys;
   string_search = s.strings_enough;
-  type_search = s.types-enough;
+  type_search = s.types_enough;
   method_search = λ w q table h. s.methods_enough (search_for w q table h.methods);
   name_filter = s.names_enough;
   code_table = build_enough;

@@ -218,11 +218,11 @@ module _ (w : Area) (q : List ℕ) where
         ∙ short_more sf sf (length b.strings) (length b'.strings) F.strings (λ y. y) h z)
         k
 
-    pub types-enough : (r : Answer) (b a : TypeWords) → Searched w q table r b a → length w.keys ≤ length b.strings
+    pub types_enough : (r : Answer) (b a : TypeWords) → Searched w q table r b a → length w.keys ≤ length b.strings
         → length table.ids ≤ length b.types
         → answer_number r ≢ 4
     unfolding sf
-    types-enough r b a F h k =
+    types_enough r b a F h k =
         found_enough (or_short sf (length b.strings) F.strings) r b.types a.types F.types
         (short_enough sf (length b.strings) F.strings (search_faults (length w.file) 0 (length q) w.keys)
         (omega (arith, owners_few w q F.strings F.owners)))

@@ -29,7 +29,7 @@ use Rattle.completeness.proofs.Enough.{codes_most, table_enough, enough_suffices
 use Rattle.region_search.specs.Search.{search_out}
 use Rattle.findrefs.specs.Find.{lengths_of, Find, search_of, find_out}
 use Rattle.findrefs.proofs.Laws.{found_number}
-use Rattle.findrefs.proofs.Promised.{suffices-not-four}
+use Rattle.findrefs.proofs.Promised.{suffices_not_four}
 use Rattle.room.specs.Enough.{build_room}
 use Rattle.room.specs.Laws.{Longer, EnoughSupposed}
 use Rattle.room.proofs.Finder.{find_is}
@@ -71,7 +71,7 @@ module _ (s : List ℕ) (h : DexHeader) (codes : List Code)
   by_kind k wanted w E (some kind) e =
       let q : k ≡ kind_number kind = its_number k kind e in
       let F : Enough (length s) h.methods.size (kind_number kind) w = rw q at E in
-      rw q (suffices-not-four s h kind wanted w codes P (enough_suffices P kind wanted w F))
+      rw q (suffices_not_four s h kind wanted w codes P (enough_suffices P kind wanted w F))
 
 pub enough_supposed : EnoughSupposed
 enough_supposed s h codes P = record {

@@ -53,9 +53,9 @@ module _ (words bytes words' bytes' : ℕ) (a : words ≤ words') (b : bytes ≤
         (λ (t : eqb (line_at E words bytes i).number 0 ≡ false) e. absurd (eqb-false _ 0 t (rw t at e)))
         (case (eqb (line_at E words bytes i).number 0))
 
-    pub entries-more : tried_out E words bytes ≡ 0 → tried_out E words' bytes' ≡ 0
+    pub entries_more : tried_out E words bytes ≡ 0 → tried_out E words' bytes' ≡ 0
     unfolding tried_out
-    entries-more =
+    entries_more =
         ⊎_elim
         (λ (t : alike E.offs E.marks E.answers ≡ true) e. rw t (first_more (length E.offs) 0 (rw t at e)))
         (λ (t : alike E.offs E.marks E.answers ≡ false) e. absurd (let z : ◌≡◌ {A = ℕ} 15 0 = rw t at e in omega arith))

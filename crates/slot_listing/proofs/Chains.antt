@@ -34,9 +34,9 @@ module _ (n : ℕ) (ws : List ℕ) (k : ℕ) where
   chain_out h = rw (lt-leb (3 * k + 3) (length ws) (omega arith))
 
   module _ (inside : k < length ws / 3) where
-    chain-end : earlier_word ws k ≡ 0 → chain (suc n) ws k ≡ some (first_word ws k ∷ last_word ws k ∷ [])
+    chain_end : earlier_word ws k ≡ 0 → chain (suc n) ws k ≡ some (first_word ws k ∷ last_word ws k ∷ [])
     unfolding chain
-    chain-end e = rw (le-leb (3 * k + 3) (length ws) (omega arith), eq-eqb (earlier_word ws k) 0 e, add-zero)
+    chain_end e = rw (le-leb (3 * k + 3) (length ws) (omega arith), eq-eqb (earlier_word ws k) 0 e, add-zero)
 
     chain_back : k < earlier_word ws k → chain (suc n) ws k ≡ none
     unfolding chain
@@ -48,9 +48,9 @@ module _ (n : ℕ) (ws : List ℕ) (k : ℕ) where
               (omega arith),
         )
 
-    chain-on : 0 < earlier_word ws k → earlier_word ws k ≤ k → chain (suc n) ws k ≡ snoc_to (last_word ws k) (chain n ws (earlier_word ws k - 1))
+    chain_on : 0 < earlier_word ws k → earlier_word ws k ≤ k → chain (suc n) ws k ≡ snoc_to (last_word ws k) (chain n ws (earlier_word ws k - 1))
     unfolding chain
-    chain-on p h =
+    chain_on p h =
         rw (
           le-leb (3 * k + 3) (length ws) (omega arith),
           ne_eqb (earlier_word ws k) 0 (λ z. omega arith),
@@ -78,10 +78,10 @@ share ws k = share_by ws k (dec_lt k (length ws / 3)) (dec_le (earlier_word ws k
 
 enough_by : (ws : List ℕ) (n m k : ℕ) → ((j : ℕ) → j < k → chain n ws j ≡ chain m ws j) → Share ws k → chain (suc n) ws k ≡ chain (suc m) ws k
 enough_by ws n m k ih (outside h) = chain_out n ws k h ∙ sym (chain_out m ws k h)
-enough_by ws n m k ih (ends h e) = chain-end n ws k h e ∙ sym (chain-end m ws k h e)
+enough_by ws n m k ih (ends h e) = chain_end n ws k h e ∙ sym (chain_end m ws k h e)
 enough_by ws n m k ih (back h b) = chain_back n ws k h b ∙ sym (chain_back m ws k h b)
 enough_by ws n m k ih (goes h p b) =
-    chain-on n ws k h p b ∙ ap (snoc_to (last_word ws k)) (ih (earlier_word ws k - 1) (omega arith)) ∙ sym (chain-on m ws k h p b)
+    chain_on n ws k h p b ∙ ap (snoc_to (last_word ws k)) (ih (earlier_word ws k - 1) (omega arith)) ∙ sym (chain_on m ws k h p b)
 
 enough : (ws : List ℕ) (n m k : ℕ) → k < n → k < m → chain n ws k ≡ chain m ws k
 enough ws zero m k p q = absurd (omega arith)
@@ -96,18 +96,18 @@ module _ (ws : List ℕ) (k : ℕ) where
   share_outside h = chain_out k ws k h
 
   module _ (inside : k < length ws / 3) where
-    pub share-ends : earlier_word ws k ≡ 0 → methods_of ws k ≡ some (first_word ws k ∷ last_word ws k ∷ [])
+    pub share_ends : earlier_word ws k ≡ 0 → methods_of ws k ≡ some (first_word ws k ∷ last_word ws k ∷ [])
     unfolding methods_of
-    share-ends e = chain-end k ws k inside e
+    share_ends e = chain_end k ws k inside e
 
     pub share_back : k < earlier_word ws k → methods_of ws k ≡ none
     unfolding methods_of
     share_back h = chain_back k ws k inside h
 
-    pub share-goes : 0 < earlier_word ws k → earlier_word ws k ≤ k → methods_of ws k ≡ snoc_to (last_word ws k) (methods_of ws (earlier_word ws k - 1))
+    pub share_goes : 0 < earlier_word ws k → earlier_word ws k ≤ k → methods_of ws k ≡ snoc_to (last_word ws k) (methods_of ws (earlier_word ws k - 1))
     unfolding methods_of
-    share-goes p h =
-        chain-on k ws k inside p h ∙ ap (snoc_to (last_word ws k))
+    share_goes p h =
+        chain_on k ws k inside p h ∙ ap (snoc_to (last_word ws k))
         (enough ws k (suc (earlier_word ws k - 1)) (earlier_word ws k - 1) (omega arith) (omega arith))
 
 -- ---- how many
@@ -159,20 +159,20 @@ goes_by : (ws : List ℕ) (k : ℕ) (l : List ℕ) → methods_of ws k ≡ some 
 goes_by ws k l has h p b = by (methods_of ws (earlier_word ws k - 1)) refl
   where
     by : (r : Option (List ℕ)) → methods_of ws (earlier_word ws k - 1) ≡ r → Goes ws k l
-    by none e = never l (sym (share-goes ws k h p b ∙ ap (snoc_to (last_word ws k)) e) ∙ has)
+    by none e = never l (sym (share_goes ws k h p b ∙ ap (snoc_to (last_word ws k)) e) ∙ has)
     by (some m) e = record {
       inside = h;
       some_earlier = p;
       earlier = b;
       rest = m;
       rest_is = e;
-      list = ap list_by (sym has ∙ share-goes ws k h p b ∙ ap (snoc_to (last_word ws k)) e);
+      list = ap list_by (sym has ∙ share_goes ws k h p b ∙ ap (snoc_to (last_word ws k)) e);
     }
 
 has_by : (ws : List ℕ) (k : ℕ) (l : List ℕ) → methods_of ws k ≡ some l → Share ws k → HasList ws k l
 has_by ws k l has (outside h) = never l (sym (share_outside ws k h) ∙ has)
 has_by ws k l has (back h b) = never l (sym (share_back ws k h b) ∙ has)
-has_by ws k l has (ends h e) = has_ends (record { inside = h; list = ap list_by (sym has ∙ share-ends ws k h e) })
+has_by ws k l has (ends h e) = has_ends (record { inside = h; list = ap list_by (sym has ∙ share_ends ws k h e) })
 has_by ws k l has (goes h p b) = has_goes (goes_by ws k l has h p b)
 
 pub has_list : (ws : List ℕ) (k : ℕ) (l : List ℕ) → methods_of ws k ≡ some l → HasList ws k l

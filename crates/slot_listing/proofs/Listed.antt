@@ -31,9 +31,9 @@ module _ (ws : List ℕ) (v room : ℕ) where
   list_fault e = rw e
 
   module _ (l : List ℕ) (lists : listed ws v ≡ some l) where
-    pub list-short : room < length l → list_out ws v room ≡ refused 4
+    pub list_short : room < length l → list_out ws v room ≡ refused 4
     unfolding list_out
-    list-short h = rw (lists, lt-leb (length l) room h)
+    list_short h = rw (lists, lt-leb (length l) room h)
 
     pub list_done : length l ≤ room → list_out ws v room ≡ success l
     unfolding list_out

@@ -32,29 +32,29 @@ module _ (s : List ℕ) (table n : ℕ) where
   none_within r = record { forward = omega arith; inside = omega arith; covers = λ i h. absurd (omega arith) }
 
   module _ (lo hi : ℕ) (low : (i : ℕ) → i < n → lo ≤ string_data_off s table i) (high : (i : ℕ) → i < n → string_data_off s table i ≤ hi) (p : lo ≤ hi) where
-    zero-within : (k : ℕ) → 1 ≤ k → (r : Zero) → r ≡ first_zero s (hi + k) → Within s table (on_zero r (none 5) (λ (m : ℕ). area lo (hi + k + m + 1) n))
-    zero-within k q (z.After m) e =
+    zero_within : (k : ℕ) → 1 ≤ k → (r : Zero) → r ≡ first_zero s (hi + k) → Within s table (on_zero r (none 5) (λ (m : ℕ). area lo (hi + k + m + 1) n))
+    zero_within k q (z.After m) e =
         record {
           forward = omega arith;
           inside = omega (arith, zero_in s (hi + k) m e);
           covers = λ i h. (low i h, omega (arith, high i h));
         }
-    zero-within k q z.Nothing e = none_within 5
+    zero_within k q z.Nothing e = none_within 5
 
-    len-within : (r : Length) → r ≡ length_bytes s hi
+    len_within : (r : Length) → r ≡ length_bytes s hi
         → Within s table (on_length r (none 5) (λ (k : ℕ). on_zero (first_zero s (hi + k)) (none 5) (λ (m : ℕ). area lo (hi + k + m + 1) n)))
-    len-within (l.Bytes k) e = zero-within k (length_in s hi k e).0 (first_zero s (hi + k)) refl
-    len-within l.Nothing e = none_within 5
+    len_within (l.Bytes k) e = zero_within k (length_in s hi k e).0 (first_zero s (hi + k)) refl
+    len_within l.Nothing e = none_within 5
 
-    text-within : Within s table (text_area s lo hi n)
+    text_within : Within s table (text_area s lo hi n)
     unfolding text_area
-    text-within = len-within (length_bytes s hi) refl
+    text_within = len_within (length_bytes s hi) refl
 
   strings_within : 0 < n → Within s table (strings_area s table n)
   unfolding strings_area
   strings_within p =
       cond_elim (Within s table) (leb (length s) (greatest s table n)) _ _ (λ _. none_within 5)
-      (λ _. text-within (least s table n) (greatest s table n) (least_low s table n) (greatest_high s table n)
+      (λ _. text_within (least s table n) (greatest s table n) (least_low s table n) (greatest_high s table n)
       (omega (arith, least_low s table n 0 p, greatest_high s table n 0 p)))
 
   pub within : (lent : ℕ) → Within s table (map_outcome s table n lent)

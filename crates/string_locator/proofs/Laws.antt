@@ -115,18 +115,18 @@ module _ (s : List ℕ) (table n lent : ℕ) where
     unfolding map_outcome
     no_strings e = rw (small, eq-eqb _ _ e)
 
-    pub ids-outside : (n ≡ 0 → ⊥) → length s < item table string_id_size n → none 3 ≡ map_outcome s table n lent
+    pub ids_outside : (n ≡ 0 → ⊥) → length s < item table string_id_size n → none 3 ≡ map_outcome s table n lent
     unfolding map_outcome
-    ids-outside some e = rw (small, ne_eqb _ _ some, lt-ltb _ _ e)
+    ids_outside some e = rw (small, ne_eqb _ _ some, lt-ltb _ _ e)
 
     pub too_short : (n ≡ 0 → ⊥) → item table string_id_size n ≤ length s → lent < n → none 4 ≡ map_outcome s table n lent
     unfolding map_outcome
     too_short some e h = rw (small, ne_eqb _ _ some, le-ltb _ _ e, lt-ltb _ _ h)
 
-    pub strings-found : (n ≡ 0 → ⊥) → item table string_id_size n ≤ length s → n ≤ lent → (a : MapOutcome) → a ≡ strings_area s table n
+    pub strings_found : (n ≡ 0 → ⊥) → item table string_id_size n ≤ length s → n ≤ lent → (a : MapOutcome) → a ≡ strings_area s table n
         → a ≡ map_outcome s table n lent
     unfolding map_outcome
-    strings-found some e h a p = p ∙ rw (small, ne_eqb _ _ some, le-ltb _ _ e, le-ltb _ _ h)
+    strings_found some e h a p = p ∙ rw (small, ne_eqb _ _ some, le-ltb _ _ e, le-ltb _ _ h)
 
 -- ---- the words of an answer: there is room for its keys, and their ids are inside the file
 pub record Room (s : List ℕ) (table n lent : ℕ) (a : MapOutcome) : Type 0 where
@@ -190,9 +190,9 @@ module _ (s : List ℕ) (table n : ℕ) (before mid : List ℕ) (cleared : mid �
     pub room : Room s table n (length mid) (area a e c)
     room = subst (Room s table n (length mid)) (sym found) (answer_room s table n (length mid))
 
-    pub keys-written : (ys : List ℕ) → ys ≡ sorted (keys_of s table (length (take c mid)))
+    pub keys_written : (ys : List ℕ) → ys ≡ sorted (keys_of s table (length (take c mid)))
         → ys ++ drop c mid ≡ padded (length before) (sorted (keys_of s table (map_outcome s table n (length before)).count))
-    keys-written ys w =
+    keys_written ys w =
         let long : length ys ≡ c = ap length w ∙ (length_sorted _ ∙ (length_keys s table _ ∙ length_part mid room)) in
         ap (λ (l : List ℕ). ys ++ drop c l) cleared
         ∙ (padded_front (length before) c ys long

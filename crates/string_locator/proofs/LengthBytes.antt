@@ -48,14 +48,14 @@ module _ (s : List ℕ) (p i : ℕ) where
     unfolding length_of length_bytes
     ends_here t = rw (drop-cons s i 0 h, lt-ltb _ _ t)
 
-    pub length-again : 128 ≤ get_or s i 0 → passed (i + 1 - p) (length_bytes s (i + 1)) ≡ r
-    length-again t =
+    pub length_again : 128 ≤ get_or s i 0 → passed (i + 1 - p) (length_bytes s (i + 1)) ≡ r
+    length_again t =
         let z : i + 1 - p ≡ i - p + 1 = omega arith in
         ap (λ (n : ℕ). passed n (length_bytes s (i + 1))) z ∙ passed_more (i - p) _ ∙ ap (passed (i - p)) (sym (goes_on t)) ∙ e
 
-    pub length-stop : get_or s i 0 < 128 → l.Bytes (i + 1 - p) ≡ r
+    pub length_stop : get_or s i 0 < 128 → l.Bytes (i + 1 - p) ≡ r
     unfolding passed
-    length-stop t = ap l.Bytes (omega arith) ∙ ap (passed (i - p)) (sym (ends_here t)) ∙ e
+    length_stop t = ap l.Bytes (omega arith) ∙ ap (passed (i - p)) (sym (ends_here t)) ∙ e
 
 -- what holds of both ways on holds
 pub length_any : {A : Type 0} (P : A → Type 0) (s : List ℕ) (i : ℕ) (a : A) (g : ℕ → A) → P a → ((k : ℕ) → P (g k))

@@ -20,21 +20,21 @@ module _ (len shortest n : ℕ) (ks : List ℕ) where
   fault_large l = rw l
 
   module _ (l : is_too_large len ≡ false) where
-    pub fault-short : n < shortest → 9 ≡ search_fault len shortest n ks
+    pub fault_short : n < shortest → 9 ≡ search_fault len shortest n ks
     unfolding search_fault
-    fault-short h = rw (l, lt-ltb _ _ h)
+    fault_short h = rw (l, lt-ltb _ _ h)
 
-    pub fault-long : 255 < n → 9 ≡ search_fault len shortest n ks
+    pub fault_long : 255 < n → 9 ≡ search_fault len shortest n ks
     unfolding search_fault
-    fault-long h = rw (l, or_right (ltb n shortest) (ltb 255 n) (lt-ltb _ _ h))
+    fault_long h = rw (l, or_right (ltb n shortest) (ltb 255 n) (lt-ltb _ _ h))
 
-    pub fault-keys : shortest ≤ n → n ≤ 255 → good_keys ks ≡ false → 15 ≡ search_fault len shortest n ks
+    pub fault_keys : shortest ≤ n → n ≤ 255 → good_keys ks ≡ false → 15 ≡ search_fault len shortest n ks
     unfolding search_fault
-    fault-keys h k g = rw (l, le-ltb _ _ h, le-ltb _ _ k, g)
+    fault_keys h k g = rw (l, le-ltb _ _ h, le-ltb _ _ k, g)
 
-    pub fault-none : shortest ≤ n → n ≤ 255 → good_keys ks ≡ true → 0 ≡ search_fault len shortest n ks
+    pub fault_none : shortest ≤ n → n ≤ 255 → good_keys ks ≡ true → 0 ≡ search_fault len shortest n ks
     unfolding search_fault
-    fault-none h k g = rw (l, le-ltb _ _ h, le-ltb _ _ k, g)
+    fault_none h k g = rw (l, le-ltb _ _ h, le-ltb _ _ k, g)
 
 -- no fault: what that says
 pub record Sound (len shortest n : ℕ) (ks : List ℕ) : Type 0 where
@@ -47,10 +47,10 @@ pub no_fault : (len shortest n : ℕ) (ks : List ℕ) → 0 ≡ search_fault len
 no_fault len shortest n ks e =
     ⊎_elim (λ (l : is_too_large len ≡ true). absurd (let f = fault_large len shortest n ks l in let z : ◌≡◌ {A = ℕ} 0 1 = cc in omega arith))
     (λ (l : is_too_large len ≡ false). ⊎_elim
-    (λ (h : n < shortest). absurd (let f = fault-short len shortest n ks l h in let z : ◌≡◌ {A = ℕ} 0 9 = cc in omega arith))
-    (λ (h : shortest ≤ n). ⊎_elim (λ (k : 255 < n). absurd (let f = fault-long len shortest n ks l k in let z : ◌≡◌ {A = ℕ} 0 9 = cc in omega arith))
+    (λ (h : n < shortest). absurd (let f = fault_short len shortest n ks l h in let z : ◌≡◌ {A = ℕ} 0 9 = cc in omega arith))
+    (λ (h : shortest ≤ n). ⊎_elim (λ (k : 255 < n). absurd (let f = fault_long len shortest n ks l k in let z : ◌≡◌ {A = ℕ} 0 9 = cc in omega arith))
     (λ (k : n ≤ 255). ⊎_elim (λ (g : good_keys ks ≡ true). record { small = ltb-false largest_file len l; least = h; short = k; good = g })
-    (λ (g : good_keys ks ≡ false). absurd (let f = fault-keys len shortest n ks l h k g in let z : ◌≡◌ {A = ℕ} 0 15 = cc in omega arith))
+    (λ (g : good_keys ks ≡ false). absurd (let f = fault_keys len shortest n ks l h k g in let z : ◌≡◌ {A = ℕ} 0 15 = cc in omega arith))
     (case (good_keys ks)))
     (below_or_not 255 n))
     (below_or_not n shortest))

@@ -1,7 +1,7 @@
 -- Finds. There is one first occurrence from a place on, so the finds from there are it and those from its end on.
 --     nearer, ahead_start, ahead_next, ahead_found, ahead_none   the search goes by places of the first and last byte
 --     find_occurs, find_after, finds_apart        every find is an occurrence, and two share no byte
---     owned-first, first-owned, later-owned        the owners from a find on
+--     owned_first, first_owned, later_owned        the owners from a find on
 -- Assumes nothing.
 use Prim.Native.Nat.{ℕ, ◌+◌, ◌-◌, ◌≤◌, ◌<◌, min}
 use mathlib.Core.Path.{◌≡◌, ap, sym, subst, ◌∙◌}
@@ -96,16 +96,16 @@ module _ {s q : List ℕ} {e : ℕ} where
 
   -- the owners from a place on are the first find's, if it has one, and those from its end on
   module _ {ks : List ℕ} {from p : ℕ} (f : First s q e from p) where
-    pub owned-first : (x : ℕ) → OwnsFrom s ks q e from x → (owner ks p ≡ Entry x) ⊎ OwnsFrom s ks q e (p + length q) x
-    owned-first x o =
+    pub owned_first : (x : ℕ) → OwnsFrom s ks q e from x → (owner ks p ≡ Entry x) ⊎ OwnsFrom s ks q e (p + length q) x
+    owned_first x o =
         ⊎_elim (λ (d : o.at ≡ p). inl (ap (owner ks) (sym d) ∙ o.owns))
         (λ (d : Find s q e (p + length q) o.at). inr record { at = o.at; find = d; owns = o.owns }) (find_cases f o.find)
 
-    pub first-owned : (x : ℕ) → owner ks p ≡ Entry x → OwnsFrom s ks q e from x
-    first-owned x h = record { at = p; find = leftmost f; owns = h }
+    pub first_owned : (x : ℕ) → owner ks p ≡ Entry x → OwnsFrom s ks q e from x
+    first_owned x h = record { at = p; find = leftmost f; owns = h }
 
-    pub later-owned : (x : ℕ) → OwnsFrom s ks q e (p + length q) x → OwnsFrom s ks q e from x
-    later-owned x o = record { at = o.at; find = further f o.find; owns = o.owns }
+    pub later_owned : (x : ℕ) → OwnsFrom s ks q e (p + length q) x → OwnsFrom s ks q e from x
+    later_owned x o = record { at = o.at; find = further f o.find; owns = o.owns }
 
   pub none_owned : {ks : List ℕ} {from : ℕ} → ((k : ℕ) → from ≤ k → Occurs s q e k → ⊥) → (x : ℕ) → OwnsFrom s ks q e from x → ⊥
   none_owned n x o = n o.at (find_after o.find) (find_occurs o.find)

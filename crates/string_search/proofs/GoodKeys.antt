@@ -1,5 +1,5 @@
 -- A list of keys passes the test where each key is above all before it.
---     good_end, good-low, good-last, good-next    one turn of the test
+--     good_end, good_low, good_last, good_next    one turn of the test
 --     good_rising, good_index, good_keys          what it says
 -- Assumes nothing.
 use Prim.Native.Nat.{ℕ, zero, suc, ◌+◌, ◌≤◌, ◌<◌}
@@ -23,20 +23,20 @@ module _ (ks : List ℕ) (b i : ℕ) where
   good_end h = rw (drop_of_length-le ks h)
 
   module _ (h : i < length ks) where
-    pub good-low : get_or ks i 0 < b → good_from b (drop i ks) ≡ false
+    pub good_low : get_or ks i 0 < b → good_from b (drop i ks) ≡ false
     unfolding good_from
-    good-low l = rw (drop-cons ks i 0 h, lt-leb _ _ l)
+    good_low l = rw (drop-cons ks i 0 h, lt-leb _ _ l)
 
-    pub good-last : b ≤ get_or ks i 0 → key_index (get_or ks i 0) ≡ 4294967295 → good_from b (drop i ks) ≡ false
+    pub good_last : b ≤ get_or ks i 0 → key_index (get_or ks i 0) ≡ 4294967295 → good_from b (drop i ks) ≡ false
     unfolding good_from
-    good-last l e =
+    good_last l e =
         let q : ltb (key_index (get_or ks i 0)) 4294967295 ≡ false = le-ltb (key_index (get_or ks i 0)) 4294967295 (omega arith) in
         rw (drop-cons ks i 0 h, le-leb _ _ l, q)
 
-    pub good-next : b ≤ get_or ks i 0 → (key_index (get_or ks i 0) ≡ 4294967295 → ⊥)
+    pub good_next : b ≤ get_or ks i 0 → (key_index (get_or ks i 0) ≡ 4294967295 → ⊥)
         → good_from b (drop i ks) ≡ good_from (get_or ks i 0 + 1) (drop (i + 1) ks)
     unfolding good_from
-    good-next l n =
+    good_next l n =
         let q : ltb (key_index (get_or ks i 0)) 4294967295 ≡ true = lt-ltb (key_index (get_or ks i 0)) 4294967295 (omega arith) in
         rw (drop-cons ks i 0 h, le-leb _ _ l, q, add-one i)
 

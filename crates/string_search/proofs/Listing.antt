@@ -21,7 +21,7 @@ use Rattle.string_search.specs.Finds.{First, Find, leftmost, further}
 use Rattle.string_search.specs.Owner.{owner}
 use Rattle.byte_search.proofs.Occurs.{occurs_or_not}
 use Rattle.string_search.specs.Search.{OwnsFrom, Area, Owns}
-use Rattle.string_search.proofs.Finds.{owned-first, first-owned, later-owned, none_owned}
+use Rattle.string_search.proofs.Finds.{owned_first, first_owned, later_owned, none_owned}
 
 module _ (s q : List ℕ) (e : ℕ) where
   -- where no occurrence begins at a place, the first from there is the first from the next
@@ -77,33 +77,33 @@ module _ (s q : List ℕ) (e : ℕ) where
   occurrence_touched {from} {k} l a o = touched (suc k) from k l (omega arith) a o
 
   module _ (ks : List ℕ) where
-    with-owner : {from : ℕ} → Occurs s q e from → (o : Owner) → owner ks from ≡ o → Listed (OwnsFrom s ks q e (from + length q))
+    with_owner : {from : ℕ} → Occurs s q e from → (o : Owner) → owner ks from ≡ o → Listed (OwnsFrom s ks q e (from + length q))
         → Listed (OwnsFrom s ks q e from)
-    with-owner {from} d (Entry i) h l =
+    with_owner {from} d (Entry i) h l =
         let w = set_with i l in
         let f = first_here d in
         record {
           list = w.list;
           set = set_same
-              (λ x m. ⊎_elim (λ (g : x ≡ i). first-owned f x (h ∙ ap Entry (sym g)))
-              (λ (g : OwnsFrom s ks q e (from + length q) x). later-owned f x g) m)
+              (λ x m. ⊎_elim (λ (g : x ≡ i). first_owned f x (h ∙ ap Entry (sym g)))
+              (λ (g : OwnsFrom s ks q e (from + length q) x). later_owned f x g) m)
               (λ x m. ⊎_elim (λ (g : owner ks from ≡ Entry x). inl (let k : x ≡ i = cc in k)) (λ (g : OwnsFrom s ks q e (from + length q) x). inr g)
-              (owned-first f x m)) w.set;
+              (owned_first f x m)) w.set;
         }
-    with-owner {from} d Absent h l =
+    with_owner {from} d Absent h l =
         let f = first_here d in
         record {
           list = l.list;
-          set = set_same (λ x m. later-owned f x m)
+          set = set_same (λ x m. later_owned f x m)
               (λ x m. ⊎_elim (λ (g : owner ks from ≡ Entry x). absurd (let z : ◌≡◌ {A = ℕ} 0 1 = cc in omega arith))
-              (λ (g : OwnsFrom s ks q e (from + length q) x). g) (owned-first f x m)) l.set;
+              (λ (g : OwnsFrom s ks q e (from + length q) x). g) (owned_first f x m)) l.set;
         }
 
-    pub owned-list : (fuel from : ℕ) → 0 < length q → e < from + fuel → Listed (OwnsFrom s ks q e from)
-    owned-list zero from l h = set_none (none_owned (λ k a o. omega (arith, o.inside)))
-    owned-list (suc fuel) from l h =
-        ⊎_elim (λ (d : Occurs s q e from). with-owner d (owner ks from) refl (owned-list fuel (from + length q) l (omega arith)))
-        (λ (d : Occurs s q e from → ⊥). let r = owned-list fuel (from + 1) l (omega arith) in
+    pub owned_list : (fuel from : ℕ) → 0 < length q → e < from + fuel → Listed (OwnsFrom s ks q e from)
+    owned_list zero from l h = set_none (none_owned (λ k a o. omega (arith, o.inside)))
+    owned_list (suc fuel) from l h =
+        ⊎_elim (λ (d : Occurs s q e from). with_owner d (owner ks from) refl (owned_list fuel (from + length q) l (omega arith)))
+        (λ (d : Occurs s q e from → ⊥). let r = owned_list fuel (from + 1) l (omega arith) in
         record {
           list = r.list;
           set = set_same (λ x o. record { at = o.at; find = find_later d o.find; owns = o.owns })
@@ -116,7 +116,7 @@ module _ (w : Area) (q : List ℕ) where
   owners_listed =
       ⊎_elim (λ (h : 0 < length q). ⊎_elim (λ (m : w.to < w.from). set_none (λ x o. omega (arith, o.forward)))
       (λ (m : w.from ≤ w.to). ⊎_elim (λ (n : length w.file < w.to). set_none (λ x o. omega (arith, o.inside)))
-      (λ (n : w.to ≤ length w.file). let l = owned-list w.file q w.to w.keys (suc w.to) w.from h (omega arith) in
+      (λ (n : w.to ≤ length w.file). let l = owned_list w.file q w.to w.keys (suc w.to) w.from h (omega arith) in
       record { list = l.list; set = set_same (λ x o. record { asked = h; forward = m; inside = n; owned = o }) (λ x o. o.owned) l.set })
       (below_or_not (length w.file) w.to))
       (below_or_not w.to w.from))

@@ -11,7 +11,7 @@ use Rattle.word_set.specs.Sets.{SetOf}
 use Rattle.word_set.specs.declared.Insertion.{Insertion}
 use Rattle.word_set.specs.declared.Insertion.TheVariants.{Held, Full}
 use Rattle.index_set.specs.Marked.{SetWords}
-use Rattle.index_set.proofs.Marking.{Marking, mark-pass, mark-add, mark-full}
+use Rattle.index_set.proofs.Marking.{Marking, mark_pass, mark_add, mark_full}
 use Rattle.string_search.specs.declared.Next.{Next}
 use Rattle.string_search.specs.declared.Next.TheVariants.{At, Nothing}
 use Rattle.string_search.specs.declared.Owner.TheVariants.{Entry}
@@ -21,7 +21,7 @@ use Rattle.string_search.specs.Finds.{First}
 use Rattle.string_search.specs.Owner.{owner}
 use Rattle.string_search.specs.Steps.{Stepped, joined, passed}
 use Rattle.string_search.specs.Search.{OwnsFrom}
-use Rattle.string_search.proofs.Finds.{owned-first, first-owned, later-owned}
+use Rattle.string_search.proofs.Finds.{owned_first, first_owned, later_owned}
 
 module _ {s q : List ℕ} {e from : ℕ} {r : Next} where
   pub found_at : (p : ℕ) → r ≡ At p → NextFind s q e from r → First s q e from p
@@ -36,14 +36,14 @@ module _ {s ks q : List ℕ} {e start from room n : ℕ} {w : SetWords} (c : Mar
   pub turn : {p m : ℕ} {after : SetWords} {r : Insertion} → First s q e from p → Stepped (owner ks p) n w after r → r ≡ Held m
       → Marking (OwnsFrom s ks q e start) (OwnsFrom s ks q e (p + length q)) room m after
   turn {p} {m} f (joined i o a) h =
-      mark-add c (later-owned f) (first-owned f i o) m
+      mark_add c (later_owned f) (first_owned f i o) m
       (λ y d. ⊎_elim (λ (g : owner ks p ≡ Entry y). inl (let k : y ≡ i = cc in k)) (λ (g : OwnsFrom s ks q e (p + length q) y). inr g)
-      (owned-first f y d)) a h
+      (owned_first f y d)) a h
   turn {p} {m} f (passed o k a) h =
-      mark-pass c (later-owned f) (λ y d. ⊎_elim (λ (g : owner ks p ≡ Entry y). absurd (let z : ◌≡◌ {A = ℕ} 0 1 = cc in omega arith))
-      (λ (g : OwnsFrom s ks q e (p + length q) y). g) (owned-first f y d)) k a h
+      mark_pass c (later_owned f) (λ y d. ⊎_elim (λ (g : owner ks p ≡ Entry y). absurd (let z : ◌≡◌ {A = ℕ} 0 1 = cc in omega arith))
+      (λ (g : OwnsFrom s ks q e (p + length q) y). g) (owned_first f y d)) k a h
 
   pub no_room : {p : ℕ} {after : SetWords} {r : Insertion} → First s q e from p → Stepped (owner ks p) n w after r → r ≡ Full
       → (l : List ℕ) → SetOf (OwnsFrom s ks q e start) l → room < length l
-  no_room f (joined i o a) h = mark-full c (first-owned f i o) a h
+  no_room f (joined i o a) h = mark_full c (first_owned f i o) a h
   no_room {r = r} f (passed o k a) h = absurd (let z : ◌≡◌ {A = ℕ} 0 1 = cc in omega arith)

@@ -73,8 +73,8 @@ module _ (s : List ℕ) (offset zeros : ℕ) (ok : Readable s zeros) where
         absurd (no_zero s (zeros - 1 - a) a q (omega arith)
         (ap (byte s) (let p : a + (zeros - 1 - a) ≡ zeros - 1 = omega arith in p) ∙ l.here (omega arith)))
 
-    pub begin-at : a < zeros → Begins (string_text s offset) (b.At a)
-    begin-at h = at_of (first_zero s a) refl h
+    pub begin_at : a < zeros → Begins (string_text s offset) (b.At a)
+    begin_at h = at_of (first_zero s a) refl h
 
     open_of : (r : Zero) → first_zero s a ≡ r → zeros ≤ a → Begins (string_text s offset) (b.Refused StringOutside)
     open_of (z.After n) q h =
@@ -84,8 +84,8 @@ module _ (s : List ℕ) (offset zeros : ℕ) (ok : Readable s zeros) where
         let f = whole_text (none 5) (text_open s a (sym q) ∙ e) in
         record { number = ap (λ (x : Found). x.number) f; place = ap (λ (x : Found). x.start) f }
 
-    pub begin-open : zeros ≤ a → Begins (string_text s offset) (b.Refused StringOutside)
-    begin-open h = open_of (first_zero s a) refl h
+    pub begin_open : zeros ≤ a → Begins (string_text s offset) (b.Refused StringOutside)
+    begin_open h = open_of (first_zero s a) refl h
 
 -- a text that begins does so inside the file
 started : (s : List ℕ) (i : ℕ) → Bytes s → (string_text s i).number ≡ 0 → (string_text s i).start < length s

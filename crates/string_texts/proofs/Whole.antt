@@ -68,31 +68,31 @@ module _ (s : List ℕ) (strings : Table) (before : List ℕ) where
           keys = z ∙ (sym (padded_none (length before)) ∙ ap (padded (length before)) (rw (← no, e)));
         }
 
-    pub gives-outside : 0 < strings.size → length s < item strings.off string_id_size strings.size → (after : List ℕ) → after ≡ zeros (length before)
+    pub gives_outside : 0 < strings.size → length s < item strings.off string_id_size strings.size → (after : List ℕ) → after ≡ zeros (length before)
         → GivesTexts s strings (t.Refused r.TableOutside) before after
     unfolding texts_fault
-    gives-outside p h after z = gives_refused r.TableOutside (rw (small, lt-ltb _ _ p, lt-ltb _ _ h)) after z
+    gives_outside p h after z = gives_refused r.TableOutside (rw (small, lt-ltb _ _ p, lt-ltb _ _ h)) after z
 
     module _ (p : 0 < strings.size) (h : item strings.off string_id_size strings.size ≤ length s) where
       abbrev found : ℕ
       found = fault_from s strings.off strings.size 0
 
-      strings-fault : fault ≡ or_fault found (cond (ltb (length before) strings.size) 4 0)
+      strings_fault : fault ≡ or_fault found (cond (ltb (length before) strings.size) 4 0)
       unfolding texts_fault
-      strings-fault = rw (small, lt-ltb _ _ p, le-ltb _ _ h)
+      strings_fault = rw (small, lt-ltb _ _ p, le-ltb _ _ h)
 
-      pub gives-fault : (why : Refusal) {x : Start} → x ≡ b.Refused why → start_number x ≡ found → (after : List ℕ) → after ≡ zeros (length before)
+      pub gives_fault : (why : Refusal) {x : Start} → x ≡ b.Refused why → start_number x ≡ found → (after : List ℕ) → after ≡ zeros (length before)
           → GivesTexts s strings (t.Refused why) before after
-      gives-fault why q e after z =
+      gives_fault why q e after z =
           let same : refusal_number why ≡ found = sym (ap start_number q) ∙ e in
-          gives_refused why (sym (strings-fault ∙ rw (← same, numbered why))) after z
+          gives_refused why (sym (strings_fault ∙ rw (← same, numbered why))) after z
 
       module _ (fine : found ≡ 0) where
-        room-fault : fault ≡ cond (ltb (length before) strings.size) 4 0
-        room-fault = strings-fault ∙ rw fine
+        room_fault : fault ≡ cond (ltb (length before) strings.size) 4 0
+        room_fault = strings_fault ∙ rw fine
 
-        pub gives-finished : {last : ℕ} {x : Texts} (mid after : List ℕ) → Bytes s
+        pub gives_finished : {last : ℕ} {x : Texts} (mid after : List ℕ) → Bytes s
             → (strings.size ≤ length before → mid ≡ padded (length before) (text_keys_of s strings.off strings.size)) → length mid ≡ length before
             → last ≡ greatest_start s strings.off strings.size → Finished s last strings.size x mid after → GivesTexts s strings x before after
-        gives-finished mid after bytes ks long e (short l q z) = ?
-        gives-finished mid after bytes ks long e (whole a l q f w) = ?
+        gives_finished mid after bytes ks long e (short l q z) = ?
+        gives_finished mid after bytes ks long e (whole a l q f w) = ?

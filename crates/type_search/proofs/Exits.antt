@@ -26,7 +26,7 @@ use Rattle.string_search.specs.Search.{Area, Owns, search_fault}
 use Rattle.string_search.proofs.Listing.{owners_listed}
 use Rattle.type_search.specs.Steps.{TypesOf}
 use Rattle.type_search.specs.Types.{TypeFound, type_words, or_short, Searched}
-use Rattle.type_search.proofs.Types.{types-found, all_types, short_fault, short_four, short_none}
+use Rattle.type_search.proofs.Types.{types_found, all_types, short_fault, short_four, short_none}
 
 -- what a search that succeeded left at the front of its words
 module _ {P : ℕ → Type 0} {fault : ℕ} {cs cs' : List ℕ} {r : Answer} (f : Found P fault r cs cs') (n : ℕ) (d : r ≡ Done n) where
@@ -61,14 +61,14 @@ module _ (w : Area) (q : List ℕ) (table : GroupWords) (strings out cs co : Lis
       record {
         strings = o.list;
         owners = o.set;
-        types = found_refused (types-found table w q) why _
+        types = found_refused (types_found table w q) why _
             (short_fault (search_fault (length w.file) 0 (length q) w.keys) (length strings) o.list why h) zo;
         cleared = zs;
       }
 
   module _ (z : 0 ≡ search_fault (length w.file) 0 (length q) w.keys) where
-    pub exit-empty : length q ≡ 0 → Searched w q table (Done 0) (type_words strings out) (type_words cs co)
-    exit-empty h = record {
+    pub exit_empty : length q ≡ 0 → Searched w q table (Done 0) (type_words strings out) (type_words cs co)
+    exit_empty h = record {
       strings = [];
       owners = set_empty (λ x o. omega (arith, o.asked));
       types =
@@ -77,9 +77,9 @@ module _ (w : Area) (q : List ℕ) (table : GroupWords) (strings out cs co : Lis
       cleared = zs;
     }
 
-    pub exit-strings : {fault : ℕ} {cs' : List ℕ} {r : Answer} → Found (Owns w q) fault r cs cs' → 0 ≡ fault → (why : Refusal) → r ≡ Refused why
+    pub exit_strings : {fault : ℕ} {cs' : List ℕ} {r : Answer} → Found (Owns w q) fault r cs cs' → 0 ≡ fault → (why : Refusal) → r ≡ Refused why
         → Searched w q table (Refused LentTooShort) (type_words strings out) (type_words cs' co)
-    exit-strings {fault} {cs'} {r} f k why h =
+    exit_strings {fault} {cs'} {r} f k why h =
         let o = owners_listed w q in
         let l : length cs ≡ length strings = zeros_length (length strings) cs zs in
         let m : length cs < length o.list = found_over why r h k f o.list o.set in
@@ -87,7 +87,7 @@ module _ (w : Area) (q : List ℕ) (table : GroupWords) (strings out cs co : Lis
           strings = o.list;
           owners = o.set;
           types =
-              found_refused (types-found table w q) LentTooShort _
+              found_refused (types_found table w q) LentTooShort _
               (short_four (search_fault (length w.file) 0 (length q) w.keys) (length strings) o.list z (omega arith)) zo;
           cleared = found_cleared why r h f ∙ ap zeros l;
         }
@@ -105,17 +105,17 @@ module _ (w : Area) (q : List ℕ) (table : GroupWords) (strings out cs co : Lis
       types : Matched (TypeFound w q table) co co' t
       types = all_types table w q (take n cs') (held_set f n d) m
 
-      pub exit-types : (after : List ℕ) → t ≡ Full → length co' ≡ length co → after ≡ zeros (length co')
+      pub exit_types : (after : List ℕ) → t ≡ Full → length co' ≡ length co → after ≡ zeros (length co')
           → Searched w q table (Refused LentTooShort) (type_words strings out) (type_words cs'' after)
-      exit-types after h j y = record {
+      exit_types after h j y = record {
         strings = take n cs';
         owners = held_set f n d;
-        types = exit_short types _ none out (zeros_length (length out) co zo) (types-found table w q) after h j y;
+        types = exit_short types _ none out (zeros_length (length out) co zo) (types_found table w q) after h j y;
         cleared = cleared;
       }
 
-      pub exit-done : (i : ℕ) → t ≡ Held i → Searched w q table (Done i) (type_words strings out) (type_words cs'' co')
-      exit-done i h = record {
+      pub exit_done : (i : ℕ) → t ≡ Held i → Searched w q table (Done i) (type_words strings out) (type_words cs'' co')
+      exit_done i h = record {
         strings = take n cs';
         owners = held_set f n d;
         types = exit_all types _ none out (zeros_length (length out) co zo) i h;

@@ -26,7 +26,7 @@ use Rattle.refusal.proofs.Numbers.{numbered}
 use Rattle.word_set.proofs.Found.{matched_same}
 use Rattle.string_search.specs.Search.{Area, Owns, search_fault}
 use Rattle.string_search.proofs.Listing.{owners_listed}
-use Rattle.string_search.proofs.Faults.{no_fault, fault-none}
+use Rattle.string_search.proofs.Faults.{no_fault, fault_none}
 use Rattle.type_search.specs.Steps.{TypesOf}
 use Rattle.type_search.specs.Types.{TypeFound, or_short}
 
@@ -36,29 +36,29 @@ module _ (table : GroupWords) where
   types_none strings i h x t = in_drop_none strings i h t.listed
 
   module _ (strings : List ℕ) (i : ℕ) (h : i < length strings) where
-    types-cases : (x : ℕ) → TypesOf table (drop i strings) x
+    types_cases : (x : ℕ) → TypesOf table (drop i strings) x
         → In x (stretch_of table.offs table.ids (get_or strings i 0)) ⊎ TypesOf table (drop (i + 1) strings) x
-    types-cases x t =
+    types_cases x t =
         ⊎_elim (λ (e : t.string ≡ get_or strings i 0). inl (subst (λ (k : ℕ). In x (stretch_of table.offs table.ids k)) e t.among))
         (λ (m : In t.string (drop (i + 1) strings)). inr record { string = t.string; listed = m; among = t.among })
         (in_drop_cases strings i h t.string t.listed)
 
-    types-here : (x : ℕ) → In x (stretch_of table.offs table.ids (get_or strings i 0)) → TypesOf table (drop i strings) x
-    types-here x m = record { string = get_or strings i 0; listed = in_drop_here strings i h; among = m }
+    types_here : (x : ℕ) → In x (stretch_of table.offs table.ids (get_or strings i 0)) → TypesOf table (drop i strings) x
+    types_here x m = record { string = get_or strings i 0; listed = in_drop_here strings i h; among = m }
 
-    types-later : (x : ℕ) → TypesOf table (drop (i + 1) strings) x → TypesOf table (drop i strings) x
-    types-later x t = record { string = t.string; listed = in_drop_later strings i h t.string t.listed; among = t.among }
+    types_later : (x : ℕ) → TypesOf table (drop (i + 1) strings) x → TypesOf table (drop i strings) x
+    types_later x t = record { string = t.string; listed = in_drop_later strings i h t.string t.listed; among = t.among }
 
     module _ {room n : ℕ} {w after : SetWords} {r : Insertion} (c : Marking (TypesOf table strings) (TypesOf table (drop i strings)) room n w)
         (group : List ℕ) (g : group ≡ stretch_of table.offs table.ids (get_or strings i 0)) (add : AddedAll group n w after r) where
       in_group : (x : ℕ) → In x group → TypesOf table (drop i strings) x
-      in_group x m = types-here x (subst (In x) g m)
+      in_group x m = types_here x (subst (In x) g m)
 
       pub turn : (m : ℕ) → r ≡ Held m → Marking (TypesOf table strings) (TypesOf table (drop (i + 1) strings)) room m after
       turn m e =
-          mark_all c types-later in_group m
+          mark_all c types_later in_group m
           (λ x t. ⊎_elim (λ (k : In x (stretch_of table.offs table.ids (get_or strings i 0))). inl (subst (In x) (sym g) k))
-          (λ (k : TypesOf table (drop (i + 1) strings) x). inr k) (types-cases x t)) add e
+          (λ (k : TypesOf table (drop (i + 1) strings) x). inr k) (types_cases x t)) add e
 
       pub no_room : r ≡ Full → (l : List ℕ) → SetOf (TypesOf table strings) l → room < length l
       no_room e = mark_all_full c in_group add e
@@ -80,20 +80,20 @@ module _ (table : GroupWords) where
   module _ (w : Area) (q : List ℕ) where
     -- the types of the strings found
     module _ (strings : List ℕ) (o : SetOf (Owns w q) strings) where
-      of-found : (x : ℕ) → TypesOf table strings x → TypeFound w q table x
-      of-found x t = record { string = t.string; owns = o.sound t.string t.listed; among = t.among }
+      of_found : (x : ℕ) → TypesOf table strings x → TypeFound w q table x
+      of_found x t = record { string = t.string; owns = o.sound t.string t.listed; among = t.among }
 
       found_of : (x : ℕ) → TypeFound w q table x → TypesOf table strings x
       found_of x t = record { string = t.string; listed = o.complete t.string t.owns; among = t.among }
 
       pub all_types : {out out' : List ℕ} {r : Insertion} → Matched (TypesOf table strings) out out' r → Matched (TypeFound w q table) out out' r
-      all_types m = matched_same of-found found_of m
+      all_types m = matched_same of_found found_of m
 
-    pub types-found : Listed (TypeFound w q table)
-    types-found =
+    pub types_found : Listed (TypeFound w q table)
+    types_found =
         let o = owners_listed w q in
         let l = types_listed o.list in
-        record { list = l.list; set = set_same (of-found o.list o.set) (found_of o.list o.set) l.set }
+        record { list = l.list; set = set_same (of_found o.list o.set) (found_of o.list o.set) l.set }
 
 -- faults
 module _ (fault room : ℕ) (xs : List ℕ) where
@@ -112,4 +112,4 @@ module _ (fault room : ℕ) (xs : List ℕ) where
 pub asked_fault : (len n : ℕ) (ks : List ℕ) → (n ≡ 0 → ⊥) → 0 ≡ search_fault len 0 n ks → 0 ≡ search_fault len 1 n ks
 asked_fault len n ks z e =
     let ok = no_fault len 0 n ks e in
-    fault-none len 1 n ks (le-ltb _ _ ok.small) (omega arith) ok.short ok.good
+    fault_none len 1 n ks (le-ltb _ _ ok.small) (omega arith) ok.short ok.good

@@ -2,7 +2,7 @@
 -- Assumes nothing.
 use native.Mathlib.Omega.{arith}
 use Rattle.words.proofs.Shared.{met}
-use Rattle.class_data.proofs.Items.{def_outside, def_none, def-some}
+use Rattle.class_data.proofs.Items.{def_outside, def_none, def_some}
 use Rattle.structs.proofs.Laws.{read32_value, read32_outside}
 use Rattle.class_data.proofs.class_def.Goals as goal
 
@@ -20,5 +20,5 @@ class_data_parse-requires c =
 
 pub returns : goal.returns
 returns c =
-    def-some _ _ _ _ (read32_value _ _ _ (met c.in-Value.is c.read_u32.ensures)) _ _ c.if-off-eq0.false
+    def_some _ _ _ _ (read32_value _ _ _ (met c.in-Value.is c.read_u32.ensures)) _ _ c.if-off-eq0.false
     c.class_data_parse.ensures

@@ -2,11 +2,11 @@
 -- Assumes nothing.
 use native.Mathlib.Omega.{arith}
 use Rattle.class_data.specs.Stored.{code_words}
-use Rattle.class_data.proofs.Gives.{gives_refused, done-told, refused_told, cleared_again}
+use Rattle.class_data.proofs.Gives.{gives_refused, done_told, refused_told, cleared_again}
 use Rattle.class_data.proofs.codes.Goals as goal
 
 pub returns-in-Done : goal.returns-in-Done
-returns-in-Done c = record { gives = done-told _ _ _ _ _ c.walk_fitting.ensures c.in-Done.is }
+returns-in-Done c = record { gives = done_told _ _ _ _ _ c.walk_fitting.ensures c.in-Done.is }
 
 pub returns-in-Refused : goal.returns-in-Refused
 returns-in-Refused c = record {

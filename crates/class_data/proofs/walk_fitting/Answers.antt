@@ -1,7 +1,7 @@
 -- `walk_fitting` meets its contract: the words are cleared first, so that the stores of a walk are its list and zeros after it.
 -- Assumes nothing.
 use Rattle.class_data.proofs.Kept.{seen_found, seen_refused}
-use Rattle.class_data.proofs.Gives.{codes_large, codes-short, codes-over, codes-no, fit_all, fit_refused}
+use Rattle.class_data.proofs.Gives.{codes_large, codes_short, codes_over, codes_no, fit_all, fit_refused}
 use Rattle.class_data.specs.Stored.{code_words}
 use Rattle.refusal.specs.Refusals.{is_too_large}
 use Rattle.words.proofs.Shared.{met}
@@ -20,7 +20,7 @@ returns-then-too_large c = fit_refused _ _ _ _ (codes_large _ _ (code_words c.ar
 pub returns-then-count-header : goal.returns-then-count-header
 returns-then-count-header c =
     fit_refused _ _ _ _
-    (codes-short _ _ (code_words c.args.triples.now c.args.starts.now) (met c.too_large.ensures c.if-too_large.false)
+    (codes_short _ _ (code_words c.args.triples.now c.args.starts.now) (met c.too_large.ensures c.if-too_large.false)
     (omega (arith, c.if-count-header.true, c.count.ensures)))
 
 pub walk-requires : goal.walk-requires
@@ -33,7 +33,7 @@ returns-then-triples-count c =
     let small : is_too_large (length c.args.buf.now) ≡ false = met c.too_large.ensures c.if-too_large.false in
     let enough : c.args.header.methods.size ≤ pair_count c.args.starts.now = omega (arith, c.if-count-header.false, c.count.ensures) in
     fit_refused _ _ _ _
-    (codes-over _ _ (code_words c.args.triples.now c.args.starts.now) small enough
+    (codes_over _ _ (code_words c.args.triples.now c.args.starts.now) small enough
     _ (seen_found _ _ _ c.walk.ensures _ _ c.in-Found.is)
     (omega arith))
 
@@ -42,7 +42,7 @@ returns-in-Refused c =
     let small : is_too_large (length c.args.buf.now) ≡ false = met c.too_large.ensures c.if-too_large.false in
     let enough : c.args.header.methods.size ≤ pair_count c.args.starts.now = omega (arith, c.if-count-header.false, c.count.ensures) in
     fit_refused _ _ _ _
-    (codes-no _ _ (code_words c.args.triples.now c.args.starts.now) small enough
+    (codes_no _ _ (code_words c.args.triples.now c.args.starts.now) small enough
     _ (seen_refused _ _ _ c.walk.ensures _ c.in-Refused.is))
 
 pub returns-else-triples-count : goal.returns-else-triples-count

@@ -4,7 +4,7 @@ use Prim.Native.Nat.{min}
 use mathlib.Core.Path.{◌≡◌, sym, ◌∙◌}
 use native.Mathlib.Omega.{arith}
 use lib.ListN.{length}
-use Rattle.code_item_scan.proofs.Starts.{tells_backward, tells_string, tells-short, tells-even}
+use Rattle.code_item_scan.proofs.Starts.{tells_backward, tells_string, tells_short, tells_even}
 use Rattle.code_item_scan.proofs.next_hit.Goals.{then-end-to, else-end-to}
 use Rattle.code_item_scan.proofs.next_hit.Goals as goal
 
@@ -27,7 +27,7 @@ pub returns-then-table-lt-INDICES : goal.returns-then-table-lt-INDICES
 returns-then-table-lt-INDICES c =
     let cut : c.if-end-to.to ≡ min c.args.end (length c.args.file.now) = elim c.if-end-to.branch [ then-end-to w ↦ omega arith | else-end-to w ↦ omega arith ] in
     record {
-      finds = tells-short _ _ _ _ _ _ cut (sym c.is_strings.ensures ∙ c.if-is_strings.false) (omega arith)
+      finds = tells_short _ _ _ _ _ _ cut (sym c.is_strings.ensures ∙ c.if-is_strings.false) (omega arith)
           (λ i. omega (arith, c.shared_slice_known-1.given i));
     }
 
@@ -39,4 +39,4 @@ next_even-requires c =
 pub returns : goal.returns
 returns c =
     let cut : c.if-end-to.to ≡ min c.args.end (length c.args.file.now) = elim c.if-end-to.branch [ then-end-to w ↦ omega arith | else-end-to w ↦ omega arith ] in
-    record { finds = tells-even _ _ _ _ _ _ cut (sym c.is_strings.ensures ∙ c.if-is_strings.false) c.next_even.ensures }
+    record { finds = tells_even _ _ _ _ _ _ cut (sym c.is_strings.ensures ∙ c.if-is_strings.false) c.next_even.ensures }

@@ -4,7 +4,7 @@ use Prim.Native.Nat.{◌+◌, ◌-◌, ◌/◌}
 use native.Mathlib.Omega.{arith}
 use Rattle.words.proofs.Padded.{lent_fill}
 use Rattle.code_table.specs.Slots.{shared}
-use Rattle.code_table.proofs.Slots.{held_free, held_share, held-over}
+use Rattle.code_table.proofs.Slots.{held_free, held_share, held_over}
 use Rattle.code_table.proofs.place.Goals as goal
 
 pub returns-then-v-eq0 : goal.returns-then-v-eq0
@@ -19,7 +19,7 @@ returns-then-v-eq0 c = λ N W cd t w words inside H.
 pub returns-then-share_room-used : goal.returns-then-share_room-used
 returns-then-share_room-used c = λ N W cd t w words inside H.
     let p = c.requires in
-    held-over H words p.above p.rises inside c.if-v-eq0.false
+    held_over H words p.above p.rises inside c.if-v-eq0.false
     (omega (arith, c.share_room.ensures, c.if-share_room-used.true, w))
 
 pub returns : goal.returns

@@ -1,4 +1,4 @@
-use Rattle.index_set.proofs.Gathering.{word_start, word_done, word-pass, word-joins, word-full, room}
+use Rattle.index_set.proofs.Gathering.{word_start, word_done, word_pass, word_joins, word_full, room}
 use native.Mathlib.Omega.{arith}
 use Rattle.index_set.proofs.gather_word.Goals.{then-w-eq1+in-Held, else-w-eq1}
 use Rattle.index_set.proofs.gather_word.Goals as goal
@@ -11,7 +11,7 @@ overflow_cast-x c = omega (arith, room c.loop-w.invariant c.loop-w-test.true)
 
 pub returns-in_default : goal.returns-in_default
 returns-in_default c =
-    word-full c.loop-w.invariant c.loop-w-test.true c.if-w-eq1.true c.insert.ensures
+    word_full c.loop-w.invariant c.loop-w-test.true c.if-w-eq1.true c.insert.ensures
     c.in_default.is
 
 pub loop-w-smaller : goal.loop-w-smaller
@@ -22,8 +22,8 @@ loop-w-preserved c =
     let m = c.loop-w.invariant in
     let t = c.loop-w-test.true in
     elim c.if-w-eq1.branch [
-      | then-w-eq1+in-Held w ↦ word-joins m t w.if-w-eq1.true w.insert.ensures _ w.in-Held.is w.insert.auto.w w.out-is w.held-is
-      | else-w-eq1 w ↦ word-pass m t w.if-w-eq1.false w.out-is w.held-is
+      | then-w-eq1+in-Held w ↦ word_joins m t w.if-w-eq1.true w.insert.ensures _ w.in-Held.is w.insert.auto.w w.out-is w.held-is
+      | else-w-eq1 w ↦ word_pass m t w.if-w-eq1.false w.out-is w.held-is
     ]
 
 pub returns : goal.returns

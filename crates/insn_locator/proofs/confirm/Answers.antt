@@ -2,7 +2,7 @@
 -- the walk stands, from which it goes on as it would have.
 -- Assumes nothing.
 use Rattle.insn_locator.proofs.Alone.{stays, goes_on, goes_on_confirmed}
-use Rattle.insn_locator.proofs.Tables.{tried_past, tried_none, tried-on, tried-off, tried_same, tried_onward}
+use Rattle.insn_locator.proofs.Tables.{tried_past, tried_none, tried_on, tried_off, tried_same, tried_onward}
 use native.Mathlib.Omega.{arith}
 use Prim.Native.Nat.{ℕ}
 use mathlib.Core.List.{List}
@@ -38,7 +38,7 @@ returns-then-walked c =
     record {
       answers = tried_same
           (ap (λ (l : List ℕ). record { answer = a.slot; last = l }) c.put.ensures
-          ∙ tried-on a.buf.now (pair a.start a.end) a.last.now a.slot a.m a.off c.if-end-off.false _ here
+          ∙ tried_on a.buf.now (pair a.start a.end) a.last.now a.slot a.m a.off c.if-end-off.false _ here
           (omega arith) told);
       goes_on = λ _. rw c.put.ensures (goes_on_confirmed a.buf.now a.start a.m a.off a.last.now _ here (omega arith) told);
     }
@@ -48,7 +48,7 @@ returns-then-onward c =
     let a = c.args in
     let here = c.from_of-from.ensures ∙ ap (from_of a.start) c.word_at.ensures in
     let told = sym (ap (λ (w : Walked). w.lands) c.walk-walked.ensures.is) ∙ c.if-walked.false in
-    let goal = tried-off a.buf.now (pair a.start a.end) a.last.now a.slot a.m a.off c.if-end-off.false _ here
+    let goal = tried_off a.buf.now (pair a.start a.end) a.last.now a.slot a.m a.off c.if-end-off.false _ here
     (omega arith) told in
     record {
       answers = tried_onward c.if-onward.true (ap (λ (r : Answered). r.answer) goal);
@@ -64,7 +64,7 @@ returns-else-onward c =
     let told = sym (ap (λ (w : Walked). w.lands) c.walk-walked.ensures.is) ∙ c.if-walked.false in
     record {
       answers = tried_same
-          (tried-off a.buf.now (pair a.start a.end) a.last.now a.slot a.m a.off c.if-end-off.false _
+          (tried_off a.buf.now (pair a.start a.end) a.last.now a.slot a.m a.off c.if-end-off.false _
           (c.from_of-from.ensures ∙ ap (from_of a.start) c.word_at.ensures) (omega arith) told);
       goes_on = λ _. stays;
     }

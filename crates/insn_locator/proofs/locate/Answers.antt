@@ -5,7 +5,7 @@ use Rattle.start_words.specs.Starts.{pair_count}
 use lib.ListN.{take, drop, length-append, length-drop}
 use mathlib.Core.List.{◌++◌}
 use Prim.Native.Nat.{◌≤◌}
-use Rattle.insn_locator.proofs.Whole.{locate_long, locate-room, locate-further, locate-fault, locate-done, take_zeros}
+use Rattle.insn_locator.proofs.Whole.{locate_long, locate_room, locate_further, locate_fault, locate_done, take_zeros}
 use Rattle.insn_locator.specs.Answers.{tables}
 use Rattle.insn_locator.proofs.Alone.{onward_first}
 use Rattle.insn_locator.proofs.Clauses.{clauses}
@@ -39,7 +39,7 @@ returns-then-answers-entries c =
     (record {
       answer =
           gives_refused _ a.answers.now _ LentTooShort
-          (locate-room a.file.now T a.entries.now (length a.answers.now) (length a.further.now)
+          (locate_room a.file.now T a.entries.now (length a.answers.now) (length a.further.now)
           (met c.too_large.ensures c.if-too_large.false) (omega (arith, c.clear-2.auto.w)))
           c.clear-2.ensures;
       further = c.clear.ensures;
@@ -54,7 +54,7 @@ returns-then-further-n c =
     (record {
       answer =
           gives_refused _ a.answers.now _ LentTooShort
-          (locate-further a.file.now T a.entries.now (length a.answers.now) (length a.further.now)
+          (locate_further a.file.now T a.entries.now (length a.answers.now) (length a.further.now)
           (met c.too_large.ensures c.if-too_large.false)
           (omega (arith, c.clear-2.auto.w))
           (omega (arith, c.clear.auto.w, c.count-n.ensures))) c.clear-2.ensures;
@@ -93,7 +93,7 @@ returns-then-all c =
     let none_yet = ap (take n) unset.ensures ∙ take_zeros n (length a.further.now) known ∙ ap zeros same in
     let whole : length (run.new.last ++ drop n unset.new.w) ≡ length a.further.now =
     simp (length-append, length-drop) (omega (arith, run.auto, unset.auto.w, length-take n unset.new.w)) in
-    let ran = locate-done a.file.now T a.entries.now (length a.answers.now) (length a.further.now) fits room (omega arith) _ none_yet
+    let ran = locate_done a.file.now T a.entries.now (length a.answers.now) (length a.further.now) fits room (omega arith) _ none_yet
     cleared.new.w _ cleared.ensures (rw c.if-all.true at run.ensures) in
     clauses a.file.now T a.entries.now _ _ _
     (record {
@@ -118,7 +118,7 @@ returns c =
     let whole : length (run.new.last ++ drop n unset.new.w) ≡ length a.further.now =
     simp (length-append, length-drop) (omega (arith, run.auto, unset.auto.w, length-take n unset.new.w)) in
     let fault =
-    locate-fault a.file.now T a.entries.now (length a.answers.now) (length a.further.now) fits room (omega arith) _ none_yet
+    locate_fault a.file.now T a.entries.now (length a.answers.now) (length a.further.now) fits room (omega arith) _ none_yet
     cleared.new.w (rw c.if-all.false at run.ensures) in
     let all : length run.new.answers ≡ length a.answers.now = omega (arith, run.auto, cleared.auto.w) in
     clauses a.file.now T a.entries.now _ _ _

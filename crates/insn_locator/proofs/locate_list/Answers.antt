@@ -1,4 +1,4 @@
-use Rattle.insn_locator.proofs.Entries.{rest-fault, rest-turn, rest-onward, rest_end}
+use Rattle.insn_locator.proofs.Entries.{rest_fault, rest_turn, rest_onward, rest_end}
 use Rattle.insn_locator.specs.Answers.{tables}
 use Rattle.insn_locator.specs.Steps.{word_of}
 use lib.ListN.{length-set}
@@ -16,7 +16,7 @@ returns-in_default c =
     let a = c.args in
     let T = tables a.base a.slots.now a.starts.now a.shares.now in
     let k = c.loop-i in
-    rest-fault a.buf.now T a.entries.now k.i k.last k.answers c.loop-i-test.true
+    rest_fault a.buf.now T a.entries.now k.i k.last k.answers c.loop-i-test.true
     (ap word_of (sym c.in_default.is) ∙ c.locate_entry.ensures.answers.answer) ∙ k.invariant.0
 
 pub loop-i-preserved : goal.loop-i-preserved
@@ -25,14 +25,14 @@ loop-i-preserved c =
     let T = tables a.base a.slots.now a.starts.now a.shares.now in
     let k = c.loop-i in
     let keeps = c.locate_entry.ensures.goes_on in (
-      rest-turn a.buf.now T a.entries.now k.i k.last k.answers c.loop-i-test.true a.onward
+      rest_turn a.buf.now T a.entries.now k.i k.last k.answers c.loop-i-test.true a.onward
           c.in-Word.word _ _ refl (rw c.in-Word.is at c.locate_entry.ensures.answers) keeps k.invariant.4
           ∙ k.invariant.0,
       omega arith,
       omega (arith, c.locate_entry.auto),
       omega (arith, length-set k.answers k.i c.in-Word.word),
       λ o.
-          rest-onward a.buf.now T a.entries.now k.i k.last k.answers c.loop-i-test.true _ (keeps o) (k.invariant.4 o),
+          rest_onward a.buf.now T a.entries.now k.i k.last k.answers c.loop-i-test.true _ (keeps o) (k.invariant.4 o),
     )
 
 pub returns : goal.returns

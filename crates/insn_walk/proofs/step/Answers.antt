@@ -5,14 +5,14 @@ use native.Mathlib.Omega.{arith}
 use Rattle.words.proofs.Shared.{met}
 use Rattle.opcodes.proofs.Laws.{length_units, length_nothing}
 use Rattle.insn_walk.proofs.Payloads.{none_low}
-use Rattle.insn_walk.proofs.Steps.{opcode-unknown, opcode-step}
+use Rattle.insn_walk.proofs.Steps.{opcode_unknown, opcode_step}
 use borrow.Author.Rules.{rules}
 use Rattle.insn_walk.proofs.step.Goals as goal
 
 pub returns-in_default : goal.returns-in_default
 returns-in_default c =
     sym
-    (opcode-unknown _ _ (none_low _ _ c.if-op-eq0.false) (search rules)
+    (opcode_unknown _ _ (none_low _ _ c.if-op-eq0.false) (search rules)
     (length_nothing _ (met c.in_default.is c.oplen.ensures)))
 
 pub overflow_mul-result : goal.overflow_mul-result
@@ -24,4 +24,4 @@ overflow_add-result c = omega (arith, length_units _ _ (met c.in-Units.is c.ople
 pub returns : goal.returns
 returns c =
     let l = length_units _ _ (met c.in-Units.is c.oplen.ensures) in
-    sym (opcode-step _ _ (none_low _ _ c.if-op-eq0.false) (search rules) _ (sym l.units) l.some)
+    sym (opcode_step _ _ (none_low _ _ c.if-op-eq0.false) (search rules) _ (sym l.units) l.some)

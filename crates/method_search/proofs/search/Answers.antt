@@ -3,7 +3,7 @@
 use Rattle.groups.specs.Built.{group_words}
 use Rattle.string_search.specs.Search.{area}
 use Rattle.method_search.specs.Methods.{query, search_for}
-use Rattle.method_search.proofs.Exits.{exit-class, exit-settled, exit-name, chosen, exit-select}
+use Rattle.method_search.proofs.Exits.{exit_class, exit_settled, exit_name, chosen, exit_select}
 use mathlib.Core.Path.{sym, ◌∙◌}
 use native.Mathlib.Omega.{arith}
 use Rattle.method_search.proofs.search.Goals as goal
@@ -12,7 +12,7 @@ pub returns-in_default : goal.returns-in_default
 returns-in_default c =
     let a = c.args in
     let p = c.requires in
-    exit-class (search_for (area a.file.now a.keys.now a.start a.end) (query a.class.now a.name.now)
+    exit_class (search_for (area a.file.now a.keys.now a.start a.end) (query a.class.now a.name.now)
     (group_words a.str_offsets.now a.type_idxs.now) a.methods) p.none c.locate.ensures.gives c.in_default.field-0
     c.in_default.is _ p.clear
 
@@ -20,7 +20,7 @@ pub returns-then-settled : goal.returns-then-settled
 returns-then-settled c =
     let a = c.args in
     let p = c.requires in
-    exit-settled (search_for (area a.file.now a.keys.now a.start a.end) (query a.class.now a.name.now)
+    exit_settled (search_for (area a.file.now a.keys.now a.start a.end) (query a.class.now a.name.now)
     (group_words a.str_offsets.now a.type_idxs.now) a.methods) p.none c.locate.ensures.gives _
     c.in-Done.is (sym c.settled.ensures ∙ c.if-settled.true) _ p.clear
 
@@ -28,7 +28,7 @@ pub returns-in_default-locate_name : goal.returns-in_default-locate_name
 returns-in_default-locate_name c =
     let a = c.args in
     let p = c.requires in
-    exit-name (search_for (area a.file.now a.keys.now a.start a.end) (query a.class.now a.name.now)
+    exit_name (search_for (area a.file.now a.keys.now a.start a.end) (query a.class.now a.name.now)
     (group_words a.str_offsets.now a.type_idxs.now) a.methods) p.none c.locate.ensures.gives _ c.in-Done.is
     (sym c.settled.ensures ∙ c.if-settled.false) c.locate_name.ensures
     c.in_default-locate_name.field-0 c.in_default-locate_name.is _
@@ -47,7 +47,7 @@ pub returns : goal.returns
 returns c =
     let a = c.args in
     let p = c.requires in
-    exit-select (search_for (area a.file.now a.keys.now a.start a.end) (query a.class.now a.name.now)
+    exit_select (search_for (area a.file.now a.keys.now a.start a.end) (query a.class.now a.name.now)
     (group_words a.str_offsets.now a.type_idxs.now) a.methods) p.none c.locate.ensures.gives _ c.in-Done.is
     (sym c.settled.ensures ∙ c.if-settled.false) c.locate_name.ensures _ c.in-Done-locate_name.is c.select.ensures
     (omega (arith, c.locate.auto)) (omega (arith, c.locate_name.auto))

@@ -7,7 +7,7 @@ use Rattle.word_set.specs.Found.{fault_number}
 use Rattle.word_set.proofs.Found.{found_refused, zeros_again, zeros_length}
 use Rattle.name_filter.proofs.Faults.{no_fault, ids_known, filter_head}
 use Rattle.name_filter.proofs.Listing.{named_listed}
-use Rattle.name_filter.proofs.Exits.{exit-done, exit-refused, as_refused}
+use Rattle.name_filter.proofs.Exits.{exit_done, exit_refused, as_refused}
 use Rattle.name_filter.proofs.locate_name_indices.Goals as goal
 
 pub returns-in-Refused : goal.returns-in-Refused
@@ -28,14 +28,14 @@ sift_all-requires c =
 
 pub returns-in-Done : goal.returns-in-Done
 returns-in-Done c = record {
-  gives = exit-done _ _ _ _ _ c.u32_at.ensures c.u32_at-2.ensures
+  gives = exit_done _ _ _ _ _ c.u32_at.ensures c.u32_at-2.ensures
       (sym (ap fault_number c.in_default.is) ∙ c.head_fault-fault.ensures) c.sift_all.ensures _
       (zeros_length _ _ c.clear.ensures) _ c.in-Done.is;
 }
 
 pub returns-in-Refused-sift_all : goal.returns-in-Refused-sift_all
 returns-in-Refused-sift_all c = record {
-  gives = as_refused c.refuse-in-Refused-sift_all.ensures (exit-refused _ _ _ _ _ c.u32_at.ensures c.u32_at-2.ensures
+  gives = as_refused c.refuse-in-Refused-sift_all.ensures (exit_refused _ _ _ _ _ c.u32_at.ensures c.u32_at-2.ensures
       (sym (ap fault_number c.in_default.is) ∙ c.head_fault-fault.ensures) c.sift_all.ensures _
       (zeros_length _ _ c.clear.ensures) c.in-Refused-sift_all.why c.in-Refused-sift_all.is _ (omega (arith, c.sift_all.auto))
       c.refuse-in-Refused-sift_all.ensures.cleared);

@@ -1,4 +1,4 @@
-use Rattle.name_filter.proofs.Marks.{passed_none, passed-index, passed_fault, passed-next, passed_all}
+use Rattle.name_filter.proofs.Marks.{passed_none, passed_index, passed_fault, passed_next, passed_all}
 use Rattle.name_filter.proofs.mark.Goals as goal
 
 pub loop-i-init : goal.loop-i-init
@@ -6,7 +6,7 @@ loop-i-init c =
     passed_none _ c.requires
 
 pub returns-then-count-index : goal.returns-then-count-index
-returns-then-count-index c = passed-index c.loop-i.invariant c.loop-i-test.true c.if-count-index.true
+returns-then-count-index c = passed_index c.loop-i.invariant c.loop-i-test.true c.if-count-index.true
 
 pub returns-in-Refused : goal.returns-in-Refused
 returns-in-Refused c =
@@ -15,7 +15,7 @@ returns-in-Refused c =
 
 pub loop-i-preserved : goal.loop-i-preserved
 loop-i-preserved c =
-    passed-next c.loop-i.invariant c.loop-i-test.true c.if-count-index.false c.mark_one-fault.ensures c.in_default.is
+    passed_next c.loop-i.invariant c.loop-i-test.true c.if-count-index.false c.mark_one-fault.ensures c.in_default.is
     c.mark_one-fault.auto.seen c.mark_one-fault.auto.has
 
 pub returns : goal.returns

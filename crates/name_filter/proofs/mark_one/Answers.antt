@@ -3,7 +3,7 @@
 use mathlib.Core.Path.{ap, sym, ◌∙◌}
 use Rattle.string_data.specs.Text.{string_text}
 use Rattle.name_filter.proofs.Faults.{judged_at}
-use Rattle.name_filter.proofs.Marks.{look_known, look-noted, look-refused}
+use Rattle.name_filter.proofs.Marks.{look_known, look_noted, look_refused}
 use Rattle.name_filter.proofs.mark_one.Goals as goal
 
 pub returns-then-holds : goal.returns-then-holds
@@ -21,7 +21,7 @@ returns-in-Known c =
     let j =
     (judged_at (ap (string_text a.file.now) c.data_offset.ensures) c.judge.ensures).known b
     c.in-Known.is in
-    look-noted a.index c.requires.marks (sym c.holds.ensures ∙ c.if-holds.false) b j.0 j.1
+    look_noted a.index c.requires.marks (sym c.holds.ensures ∙ c.if-holds.false) b j.0 j.1
     c.note.ensures
 
 pub returns-in-Refused : goal.returns-in-Refused
@@ -31,4 +31,4 @@ returns-in-Refused c =
     let j =
     (judged_at (ap (string_text a.file.now) c.data_offset.ensures)
     c.judge.ensures).refused why c.in-Refused.is in
-    look-refused a.index c.requires.marks why j
+    look_refused a.index c.requires.marks why j

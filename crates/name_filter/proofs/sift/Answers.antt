@@ -3,7 +3,7 @@ use mathlib.Core.Path.{refl, ap, sym, ◌∙◌}
 use native.Mathlib.Omega.{arith}
 use Rattle.word_set.specs.Found.{fault_number}
 use Rattle.name_filter.specs.Steps.{stopped}
-use Rattle.name_filter.proofs.Sifting.{sift-done, sift-short}
+use Rattle.name_filter.proofs.Sifting.{sift_done, sift_short}
 use Rattle.name_filter.proofs.sift.Goals as goal
 
 pub returns-in-Refused : goal.returns-in-Refused
@@ -12,10 +12,10 @@ returns-in-Refused c =
 
 pub returns-in_default-gather : goal.returns-in_default-gather
 returns-in_default-gather c =
-    sift-short c.mark-fault.ensures (ap fault_number c.in_default.is) (omega (arith, c.requires.small, c.mark-fault.auto))
+    sift_short c.mark-fault.ensures (ap fault_number c.in_default.is) (omega (arith, c.requires.small, c.mark-fault.auto))
     c.requires.clear c.gather.ensures c.in_default-gather.is
 
 pub returns : goal.returns
 returns c =
-    sift-done c.mark-fault.ensures (ap fault_number c.in_default.is) (omega (arith, c.requires.small, c.mark-fault.auto))
+    sift_done c.mark-fault.ensures (ap fault_number c.in_default.is) (omega (arith, c.requires.small, c.mark-fault.auto))
     c.requires.clear c.gather.ensures _ c.in-Held.is

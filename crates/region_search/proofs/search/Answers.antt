@@ -1,6 +1,6 @@
 -- `region_search::search` meets its contract: each way out is one of the outcome's. Assumes nothing.
 use native.Mathlib.Omega.{arith}
-use Rattle.region_search.proofs.Searched.{search_refused, search-located, scan_fits}
+use Rattle.region_search.proofs.Searched.{search_refused, search_located, scan_fits}
 use Rattle.region_search.proofs.search.Goals as goal
 
 pub locate_hits-requires : goal.locate_hits-requires
@@ -18,5 +18,5 @@ shape_of-further-in-Done c =
 
 pub returns-in-Done : goal.returns-in-Done
 returns-in-Done c =
-    search-located _ _ _ _ _ _ _ c.in-Done.is c.scan.ensures.gives _ _ _ _ c.first.ensures
+    search_located _ _ _ _ _ _ _ c.in-Done.is c.scan.ensures.gives _ _ _ _ c.first.ensures
     (omega arith) (omega arith) (omega (arith, c.further-1.given)) (omega arith) c.locate_hits.ensures

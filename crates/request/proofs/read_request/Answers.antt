@@ -4,7 +4,7 @@ use native.Mathlib.Omega.{arith}
 use Rattle.words.proofs.Shared.{met}
 use Rattle.refusal.specs.declared.Refusal.TheVariants.{LentTooShort, BadRequest}
 use Rattle.request.proofs.Laws.{viewed}
-use Rattle.request.proofs.Whole.{no_header, no_kind, no_index, more-text, more-indices, says-asked, says_refused}
+use Rattle.request.proofs.Whole.{no_header, no_kind, no_index, more_text, more_indices, says_asked, says_refused}
 use Rattle.request.proofs.read_request.Goals as goal
 
 pub returns-in_default : goal.returns-in_default
@@ -31,7 +31,7 @@ returns-in_default-index_line c =
 pub returns-then-c-text : goal.returns-then-c-text
 returns-then-c-text c =
     says_refused BadRequest
-    (more-text _ _ (met c.in-At.is c.header_lines.ensures)
+    (more_text _ _ (met c.in-At.is c.header_lines.ensures)
     (met c.in-Value.is c.kind_line.ensures) _ _ _ _
     (viewed _ c.in-Read.is c.index_line.ensures) c.if-c-text.true)
     (omega arith) c.refuse-then-c-text.ensures
@@ -39,7 +39,7 @@ returns-then-c-text c =
 pub returns-then-wanted-count : goal.returns-then-wanted-count
 returns-then-wanted-count c =
     says_refused LentTooShort
-    (more-indices _ _ (met c.in-At.is c.header_lines.ensures)
+    (more_indices _ _ (met c.in-At.is c.header_lines.ensures)
     (met c.in-Value.is c.kind_line.ensures) _ _ _ _
     (viewed _ c.in-Read.is c.index_line.ensures) c.if-c-text.false
     (omega (arith, c.if-wanted-count.true, c.index_line.auto.wanted)))
@@ -47,7 +47,7 @@ returns-then-wanted-count c =
 
 pub returns : goal.returns
 returns c =
-    says-asked _ _ (met c.in-At.is c.header_lines.ensures)
+    says_asked _ _ (met c.in-At.is c.header_lines.ensures)
     (met c.in-Value.is c.kind_line.ensures) _ _ _ _
     (viewed _ c.in-Read.is c.index_line.ensures) c.if-c-text.false
     (omega arith) c.clear.ensures _ refl

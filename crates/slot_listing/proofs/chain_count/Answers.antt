@@ -5,7 +5,7 @@ use Prim.Native.Nat.{ℕ, ◌+◌, ◌-◌, ◌*◌}
 use native.Mathlib.Omega.{arith}
 use Rattle.slot_listing.specs.declared.Chain.TheVariants.{Count}
 use Rattle.slot_listing.specs.Steps.{methods_of, count_of}
-use Rattle.slot_listing.proofs.Chains.{earlier_word, last_word, share_outside, share-ends, share_back, share-goes, more, more_none, more_one}
+use Rattle.slot_listing.proofs.Chains.{earlier_word, last_word, share_outside, share_ends, share_back, share_goes, more, more_none, more_one}
 use Rattle.slot_listing.proofs.chain_count.Goals as goal
 
 pub loop-at-init : goal.loop-at-init
@@ -19,7 +19,7 @@ returns-then-earlier-eq0 c =
     let ws = c.args.shares.now in
     let s = c.loop-at in
     let q : 2 + s.n ≡ s.n + 2 = omega arith in
-    sym (s.invariant.0 ∙ ap (λ (r : Option (List ℕ)). more s.n (count_of r)) (share-ends ws s.at (omega arith) c.if-earlier-eq0.true) ∙ ap Count q)
+    sym (s.invariant.0 ∙ ap (λ (r : Option (List ℕ)). more s.n (count_of r)) (share_ends ws s.at (omega arith) c.if-earlier-eq0.true) ∙ ap Count q)
 
 pub returns-then-at-earlier : goal.returns-then-at-earlier
 returns-then-at-earlier c =
@@ -32,7 +32,7 @@ loop-at-preserved c =
     let ws = c.args.shares.now in
     let s = c.loop-at in
     let e = earlier_word ws s.at in (
-      s.invariant.0 ∙ ap (λ (r : Option (List ℕ)). more s.n (count_of r)) (share-goes ws s.at (omega arith) (omega arith) (omega arith)) ∙ more_one
+      s.invariant.0 ∙ ap (λ (r : Option (List ℕ)). more s.n (count_of r)) (share_goes ws s.at (omega arith) (omega arith) (omega arith)) ∙ more_one
           s.n (methods_of ws (e - 1)) (last_word ws s.at),
       omega arith,
       s.invariant.2,

@@ -1,6 +1,6 @@
 -- Each way out is one form of slot word, with the refusals in their order.
 -- Assumes nothing.
-use Rattle.slot_listing.proofs.Listed.{listed_free, listed_single, listed_share, list_fault, list-short, list_done}
+use Rattle.slot_listing.proofs.Listed.{listed_free, listed_single, listed_share, list_fault, list_short, list_done}
 use Rattle.slot_listing.proofs.Chains.{count_some, count_none}
 use Rattle.slot_listing.specs.Steps.{methods_of, list_by}
 use Rattle.refusal.proofs.Outcomes.{gives_refused, gives_done}
@@ -33,7 +33,7 @@ returns-then-methods-eq0 c = record {
       let room = length a.methods.now in
       let cleared = c.clear.ensures in
       gives_refused _ a.methods.now _ LentTooShort
-      (list-short ws a.slot room ((a.slot - 1) ∷ []) (listed_single ws a.slot (omega arith) c.if-slot-lt-SHARED.true) (omega arith)) cleared;
+      (list_short ws a.slot room ((a.slot - 1) ∷ []) (listed_single ws a.slot (omega arith) c.if-slot-lt-SHARED.true) (omega arith)) cleared;
 }
 
 pub returns-then-slot-lt-SHARED : goal.returns-then-slot-lt-SHARED
@@ -74,7 +74,7 @@ returns-then-methods-n c = record {
       let n = c.in-Count.n in
       let has = count_some (methods_of ws k) n (met c.chain_count.ensures c.in-Count.is) in
       let lists = listed_share ws a.slot (omega arith) ∙ has.0 in
-      gives_refused _ a.methods.now _ LentTooShort (list-short ws a.slot room l lists (omega arith)) cleared;
+      gives_refused _ a.methods.now _ LentTooShort (list_short ws a.slot room l lists (omega arith)) cleared;
 }
 
 pub fill_chain-requires : goal.fill_chain-requires

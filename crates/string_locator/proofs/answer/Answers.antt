@@ -1,6 +1,6 @@
 -- `string_locator::answer` meets its contract: the faults are tested in the order of the definition.
 -- Assumes nothing.
-use Rattle.string_locator.proofs.Laws.{too_large, no_strings, ids-outside, too_short, strings-found}
+use Rattle.string_locator.proofs.Laws.{too_large, no_strings, ids_outside, too_short, strings_found}
 use Rattle.refusal.specs.Refusals.{is_too_large}
 use lib.ListN.{length}
 use mathlib.Core.Bool.{false}
@@ -22,7 +22,7 @@ returns-then-n-eq0 c =
 pub returns-then-file-end : goal.returns-then-file-end
 returns-then-file-end c =
     let small : is_too_large (length c.args.file.now) ≡ false = sym c.too_large.ensures ∙ c.if-too_large.false in
-    ids-outside _ _ _ _ small c.if-n-eq0.false (omega (arith, c.end.ensures))
+    ids_outside _ _ _ _ small c.if-n-eq0.false (omega (arith, c.end.ensures))
 
 pub returns-then-lent-n : goal.returns-then-lent-n
 returns-then-lent-n c =
@@ -39,5 +39,5 @@ strings_area-requires c = (
 pub returns : goal.returns
 returns c =
     let small : is_too_large (length c.args.file.now) ≡ false = sym c.too_large.ensures ∙ c.if-too_large.false in
-    strings-found _ _ _ _ small c.if-n-eq0.false (omega (arith, c.end.ensures))
+    strings_found _ _ _ _ small c.if-n-eq0.false (omega (arith, c.end.ensures))
     c.if-lent-n.false _ c.strings_area.ensures

@@ -1,6 +1,6 @@
 -- `string_locator::build_map` meets its contract: the words are cleared, and an answer with keys has room for them.
 -- Assumes nothing.
-use Rattle.string_locator.proofs.Laws.{Room, room, length_part, same_answer, no_keys, keys-written}
+use Rattle.string_locator.proofs.Laws.{Room, room, length_part, same_answer, no_keys, keys_written}
 use mathlib.Core.Path.{sym, ap}
 use lib.ListN.{length}
 use Rattle.string_locator.specs.Map.{says, area}
@@ -47,4 +47,4 @@ returns c =
     let e = met (ap says c.in-Map.is) c.answer-found.ensures in
     let z = c.clear_wide.ensures in
     let k = c.args.keys.now in
-    record { answer = same_answer _ _ _ k _ z _ e; keys = keys-written _ _ _ k _ z _ _ _ e _ c.put_keys.ensures }
+    record { answer = same_answer _ _ _ k _ z _ e; keys = keys_written _ _ _ k _ z _ _ _ e _ c.put_keys.ensures }

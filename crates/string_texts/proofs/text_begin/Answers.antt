@@ -2,7 +2,7 @@
 -- Assumes nothing.
 use mathlib.Core.Path.{sym, ap, ◌∙◌}
 use Rattle.string_texts.specs.Starts.{text_at}
-use Rattle.string_texts.proofs.Keys.{begin_refused, begin-at, begin-open}
+use Rattle.string_texts.proofs.Keys.{begin_refused, begin_at, begin_open}
 use Rattle.string_texts.proofs.text_begin.Goals as goal
 
 pub returns-in_default : goal.returns-in_default
@@ -11,10 +11,10 @@ returns-in_default c =
 
 pub returns-then-at-zeros : goal.returns-then-at-zeros
 returns-then-at-zeros c =
-    begin-at _ _ _ c.requires _ (ap (text_at _) (sym c.in-At.is) ∙ c.text_start-begin.ensures)
+    begin_at _ _ _ c.requires _ (ap (text_at _) (sym c.in-At.is) ∙ c.text_start-begin.ensures)
     c.if-at-zeros.true
 
 pub returns : goal.returns
 returns c =
-    begin-open _ _ _ c.requires _ (ap (text_at _) (sym c.in-At.is) ∙ c.text_start-begin.ensures)
+    begin_open _ _ _ c.requires _ (ap (text_at _) (sym c.in-At.is) ∙ c.text_start-begin.ensures)
     c.if-at-zeros.false

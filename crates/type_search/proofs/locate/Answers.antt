@@ -1,6 +1,6 @@
 -- A law for each way out; what was found of the strings stands at the front of their words, and is cleared once the types are collected.
 -- Assumes nothing.
-use Rattle.type_search.proofs.Exits.{held_fit, exit_fault, exit-empty, exit-strings, exit-types, exit-done}
+use Rattle.type_search.proofs.Exits.{held_fit, exit_fault, exit_empty, exit_strings, exit_types, exit_done}
 use Rattle.type_search.proofs.Types.{asked_fault}
 use Rattle.word_set.specs.Found.{fault_number}
 use Rattle.word_set.proofs.Found.{zeros_again}
@@ -27,7 +27,7 @@ returns-then-query-eq0 c = record {
   gives = let a = c.args in
       let zs = c.clear.ensures in
       let zo = c.clear-2.ensures in
-      exit-empty (area a.file.now a.keys.now a.start a.end) a.query.now (group_words a.str_offsets.now a.type_idxs.now)
+      exit_empty (area a.file.now a.keys.now a.start a.end) a.query.now (group_words a.str_offsets.now a.type_idxs.now)
       a.strings.now a.out.now _ _ zs zo
       (sym (ap fault_number c.in_default.is) ∙ c.search_fault-fault.ensures) c.if-query-eq0.true;
 }
@@ -37,7 +37,7 @@ returns-in_default-locate c = record {
   gives = let a = c.args in
       let zs = c.clear.ensures in
       let zo = c.clear-2.ensures in
-      exit-strings (area a.file.now a.keys.now a.start a.end) a.query.now (group_words a.str_offsets.now a.type_idxs.now)
+      exit_strings (area a.file.now a.keys.now a.start a.end) a.query.now (group_words a.str_offsets.now a.type_idxs.now)
       a.strings.now a.out.now _ _ zs zo (sym (ap fault_number c.in_default.is) ∙ c.search_fault-fault.ensures)
       c.locate.ensures.gives
       (asked_fault _ _ _ c.if-query-eq0.false (sym (ap fault_number c.in_default.is) ∙ c.search_fault-fault.ensures))
@@ -65,7 +65,7 @@ returns-in_default-found c = record {
   gives = let a = c.args in
       let zs = c.clear.ensures in
       let zo = c.clear-2.ensures in
-      exit-types (area a.file.now a.keys.now a.start a.end) a.query.now (group_words a.str_offsets.now a.type_idxs.now)
+      exit_types (area a.file.now a.keys.now a.start a.end) a.query.now (group_words a.str_offsets.now a.type_idxs.now)
       a.strings.now a.out.now _ _ zs zo (sym (ap fault_number c.in_default.is) ∙ c.search_fault-fault.ensures)
       c.locate.ensures.gives _ c.in-Done.is _ c.fill.ensures (omega (arith, c.locate.auto))
       c.collect-found.ensures _ c.in_default-found.is (omega (arith, c.collect-found.auto))
@@ -77,7 +77,7 @@ returns c = record {
   gives = let a = c.args in
       let zs = c.clear.ensures in
       let zo = c.clear-2.ensures in
-      exit-done (area a.file.now a.keys.now a.start a.end) a.query.now (group_words a.str_offsets.now a.type_idxs.now)
+      exit_done (area a.file.now a.keys.now a.start a.end) a.query.now (group_words a.str_offsets.now a.type_idxs.now)
       a.strings.now a.out.now _ _ zs zo (sym (ap fault_number c.in_default.is) ∙ c.search_fault-fault.ensures)
       c.locate.ensures.gives _ c.in-Done.is _ c.fill.ensures (omega (arith, c.locate.auto))
       c.collect-found.ensures _ c.in-Held.is;

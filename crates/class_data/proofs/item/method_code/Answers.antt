@@ -3,7 +3,7 @@
 use native.Mathlib.Omega.{arith}
 use Rattle.words.proofs.Shared.{met}
 use Rattle.class_data.proofs.Laws.{head_told, head_refused}
-use Rattle.class_data.proofs.Parts.{method_refused, method_bare, method_index, method-large, method-outside, method-coded}
+use Rattle.class_data.proofs.Parts.{method_refused, method_bare, method_index, method_large, method_outside, method_coded}
 use Rattle.class_data.proofs.item.method_code.Goals as goal
 
 pub returns-then-code-eq0 : goal.returns-then-code-eq0
@@ -17,12 +17,12 @@ returns-then-methods-j c =
 
 pub returns-then-j-ge-MOST_METHODS : goal.returns-then-j-ge-MOST_METHODS
 returns-then-j-ge-MOST_METHODS c =
-    method-large _ (head_told _ _ _ _ c.method_head.ensures c.in-At.is)
+    method_large _ (head_told _ _ _ _ c.method_head.ensures c.in-At.is)
     c.if-code-eq0.false (omega arith) (omega arith)
 
 pub returns-in_default : goal.returns-in_default
 returns-in_default c =
-    method-outside _ (head_told _ _ _ _ c.method_head.ensures c.in-At.is)
+    method_outside _ (head_told _ _ _ _ c.method_head.ensures c.in-At.is)
     c.if-code-eq0.false (omega arith) (omega arith) (met c.in_default.is c.code_item.ensures)
 
 pub returns-in-Refused : goal.returns-in-Refused
@@ -30,5 +30,5 @@ returns-in-Refused c = method_refused _ _ _ _ (head_refused _ _ _ _ c.method_hea
 
 pub returns-in-Units : goal.returns-in-Units
 returns-in-Units c =
-    method-coded _ (head_told _ _ _ _ c.method_head.ensures c.in-At.is)
+    method_coded _ (head_told _ _ _ _ c.method_head.ensures c.in-At.is)
     c.if-code-eq0.false (omega arith) (omega arith) (met c.in-Units.is c.code_item.ensures)

@@ -1,6 +1,6 @@
 -- `method_head` meets its contract: the sum is tested once its number is read, before the two numbers after it.
 -- Assumes nothing.
-use Rattle.class_data.proofs.Laws.{head_no1, head-index, head-no2, head-no3, head_at}
+use Rattle.class_data.proofs.Laws.{head_no1, head_index, head_no2, head_no3, head_at}
 use Rattle.leb128.proofs.Published.{fast_in}
 use Rattle.words.proofs.Shared.{met}
 use native.Mathlib.Omega.{arith}
@@ -8,7 +8,7 @@ use Rattle.class_data.proofs.item.method_head.Goals as goal
 
 pub returns-then-sum-ge-WORD : goal.returns-then-sum-ge-WORD
 returns-then-sum-ge-WORD c =
-    head-index _ _ _ (met c.in-Number.is c.read_uleb128_fast.ensures.gives) (omega arith)
+    head_index _ _ _ (met c.in-Number.is c.read_uleb128_fast.ensures.gives) (omega arith)
 
 pub overflow_add-p : goal.overflow_add-p
 overflow_add-p c =
@@ -28,12 +28,12 @@ returns-in-Refused c =
 
 pub returns-in-Refused-read_uleb128_fast : goal.returns-in-Refused-read_uleb128_fast
 returns-in-Refused-read_uleb128_fast c =
-    head-no2 _ _ _ (met c.in-Number.is c.read_uleb128_fast.ensures.gives) (omega arith)
+    head_no2 _ _ _ (met c.in-Number.is c.read_uleb128_fast.ensures.gives) (omega arith)
     (met c.in-Refused-read_uleb128_fast.is c.read_uleb128_fast-in-Number.ensures.gives)
 
 pub returns-in-Refused-read_uleb128_fast-2 : goal.returns-in-Refused-read_uleb128_fast-2
 returns-in-Refused-read_uleb128_fast-2 c =
-    head-no3 _ _ _ (met c.in-Number.is c.read_uleb128_fast.ensures.gives) (omega arith)
+    head_no3 _ _ _ (met c.in-Number.is c.read_uleb128_fast.ensures.gives) (omega arith)
     (met c.in-Number-read_uleb128_fast.is c.read_uleb128_fast-in-Number.ensures.gives)
     (met c.in-Refused-read_uleb128_fast-2.is c.read_uleb128_fast-in-Number-read_uleb128_fast.ensures.gives)
 

@@ -1,6 +1,6 @@
 -- `read_two` meets its contract: two numbers one after another, each inside the file, so that no offset wraps.
 -- Assumes nothing.
-use Rattle.class_data.proofs.Laws.{two_no1, two-no2, two_read}
+use Rattle.class_data.proofs.Laws.{two_no1, two_no2, two_read}
 use Rattle.leb128.proofs.Published.{fast_in}
 use Rattle.words.proofs.Shared.{met}
 use native.Mathlib.Omega.{arith}
@@ -20,7 +20,7 @@ returns-in-Refused c =
 
 pub returns-in-Refused-read_uleb128_fast : goal.returns-in-Refused-read_uleb128_fast
 returns-in-Refused-read_uleb128_fast c =
-    two-no2 _ _ (met c.in-Number.is c.read_uleb128_fast.ensures.gives)
+    two_no2 _ _ (met c.in-Number.is c.read_uleb128_fast.ensures.gives)
     (met c.in-Refused-read_uleb128_fast.is c.read_uleb128_fast-in-Number.ensures.gives)
 
 pub returns-in-Number-read_uleb128_fast : goal.returns-in-Number-read_uleb128_fast

@@ -1,6 +1,6 @@
 use mathlib.Core.Path.{subst, ap}
 use Rattle.code_item_scan.specs.Steps.{marked, EvenHit}
-use Rattle.code_item_scan.proofs.Starts.{passed_skipped, passed_on, passed-found, passed-end}
+use Rattle.code_item_scan.proofs.Starts.{passed_skipped, passed_on, passed_found, passed_end}
 use native.Mathlib.Omega.{arith}
 use Rattle.code_item_scan.proofs.hits.next_even.Goals as goal
 
@@ -13,7 +13,7 @@ loop-at-init c = passed_skipped _ _ _ _ _ c.requires.3 _ c.skip_even-at.ensures
 pub returns-in-Mark : goal.returns-in-Mark
 returns-in-Mark c =
     let k = c.loop-at in
-    passed-found _ _ _ _ _ c.requires.3 _ k.invariant (omega arith) _
+    passed_found _ _ _ _ _ c.requires.3 _ k.invariant (omega arith) _
     (subst (EvenHit _ _ _ _) (ap marked c.in-Mark.is) c.even_hit-h.ensures)
 
 pub loop-at-preserved : goal.loop-at-preserved
@@ -24,4 +24,4 @@ loop-at-preserved c =
 
 pub returns : goal.returns
 returns c =
-    passed-end _ _ _ _ _ c.requires.3 _ c.loop-at.invariant (omega arith)
+    passed_end _ _ _ _ _ c.requires.3 _ c.loop-at.invariant (omega arith)

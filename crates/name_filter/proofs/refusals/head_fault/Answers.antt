@@ -1,6 +1,6 @@
 -- `refusals::head_fault` meets its contract: a law for each way out.
 -- Assumes nothing.
-use Rattle.name_filter.proofs.Faults.{head_large, head-short, head-table, head-long, head-query, head-none}
+use Rattle.name_filter.proofs.Faults.{head_large, head_short, head_table, head_long, head_query, head_none}
 use Rattle.words.proofs.Shared.{met}
 use native.Mathlib.Omega.{arith}
 use Rattle.name_filter.proofs.refusals.head_fault.Goals as goal
@@ -9,26 +9,26 @@ pub returns-then-too_large : goal.returns-then-too_large
 returns-then-too_large c = head_large _ _ (met c.too_large.ensures c.if-too_large.true)
 
 pub returns-then-len-lt112 : goal.returns-then-len-lt112
-returns-then-len-lt112 c = head-short _ _ (met c.too_large.ensures c.if-too_large.false) c.if-len-lt112.true
+returns-then-len-lt112 c = head_short _ _ (met c.too_large.ensures c.if-too_large.false) c.if-len-lt112.true
 
 pub returns-then-len-u32_at : goal.returns-then-len-u32_at
 returns-then-len-u32_at c =
-    head-table _ _ (met c.too_large.ensures c.if-too_large.false)
+    head_table _ _ (met c.too_large.ensures c.if-too_large.false)
     (omega (arith, c.u32_at-2.ensures, c.u32_at.ensures, c.if-len-u32_at.true))
 
 pub returns-then-query-gt255 : goal.returns-then-query-gt255
 returns-then-query-gt255 c =
-    head-long _ _ (met c.too_large.ensures c.if-too_large.false) c.if-len-lt112.false
+    head_long _ _ (met c.too_large.ensures c.if-too_large.false) c.if-len-lt112.false
     (omega (arith, c.u32_at-2.ensures, c.u32_at.ensures, c.if-len-u32_at.false)) c.if-query-gt255.true
 
 pub returns-then-is_ascii : goal.returns-then-is_ascii
 returns-then-is_ascii c =
-    head-none _ _ (met c.too_large.ensures c.if-too_large.false) c.if-len-lt112.false
+    head_none _ _ (met c.too_large.ensures c.if-too_large.false) c.if-len-lt112.false
     (omega (arith, c.u32_at-2.ensures, c.u32_at.ensures, c.if-len-u32_at.false))
     c.if-query-gt255.false (met c.is_ascii.ensures c.if-is_ascii.true)
 
 pub returns : goal.returns
 returns c =
-    head-query _ _ (met c.too_large.ensures c.if-too_large.false) c.if-len-lt112.false
+    head_query _ _ (met c.too_large.ensures c.if-too_large.false) c.if-len-lt112.false
     (omega (arith, c.u32_at-2.ensures, c.u32_at.ensures, c.if-len-u32_at.false))
     c.if-query-gt255.false (met c.is_ascii.ensures c.if-is_ascii.false)

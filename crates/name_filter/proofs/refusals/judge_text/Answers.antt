@@ -1,6 +1,6 @@
 -- `refusals::judge_text` meets its contract: the stretch that is looked at is the text's.
 -- Assumes nothing.
-use Rattle.name_filter.proofs.Faults.{judged_empty, judged-ascii, judged-other}
+use Rattle.name_filter.proofs.Faults.{judged_empty, judged_ascii, judged_other}
 use Rattle.string_data.proofs.Laws.{stretch_found}
 use Rattle.words.proofs.Shared.{met}
 use mathlib.Core.Path.{refl}
@@ -12,11 +12,11 @@ returns-then-query-lt1 c = judged_empty _ _ _ _ c.if-query-lt1.true
 pub returns-then-is_ascii : goal.returns-then-is_ascii
 returns-then-is_ascii c =
     let a = c.args in
-    judged-ascii a.file.now a.query.now a.start a.len _ (stretch_found a.file.now a.start a.len _ refl) _
+    judged_ascii a.file.now a.query.now a.start a.len _ (stretch_found a.file.now a.start a.len _ refl) _
     (met c.is_ascii.ensures c.if-is_ascii.true) c.matches_name.ensures
 
 pub returns : goal.returns
 returns c =
     let a = c.args in
-    judged-other a.file.now a.query.now a.start a.len _ (stretch_found a.file.now a.start a.len _ refl)
+    judged_other a.file.now a.query.now a.start a.len _ (stretch_found a.file.now a.start a.len _ refl)
     c.if-query-lt1.false (met c.is_ascii.ensures c.if-is_ascii.false)
