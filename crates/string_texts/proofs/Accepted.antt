@@ -3,9 +3,8 @@
 -- Assumes nothing.
 use Prim.Native.Nat.{ℕ, zero, suc, ◌+◌, ◌*◌, ◌-◌, ◌<◌, ◌≤◌}
 use native.Mathlib.Omega.{arith}
-use mathlib.Core.Path.{◌≡◌, refl, sym, ap, subst, ◌∙◌}
+use mathlib.Core.Path.{◌≡◌, refl, sym, ap, ◌∙◌}
 use mathlib.Core.Logic.{◌≢◌, ◌⊎◌, inl, inr, ⊎_elim}
-use mathlib.Core.Bool.{true, false}
 use mathlib.Core.List.{List}
 use lib.ListN.{length, take, drop}
 use lib.Dec.{ltb, eqb}
@@ -14,8 +13,8 @@ use Rattle.words.proofs.Shared.{case}
 use Rattle.dalvik.specs.Numbers.{byte, Bytes, Leb128}
 use Rattle.dalvik.specs.Numbers.Leb128.{last_byte, more_bytes}
 use Rattle.dalvik.specs.Ids.{StringData}
-use Rattle.refusal.specs.Refusals.{largest_file, is_too_large}
-use Rattle.string_data.specs.Text.{first_zero, further, Found, none, found, text_from, after_length, string_text, stretch_of}
+use Rattle.refusal.specs.Refusals.{largest_file}
+use Rattle.string_data.specs.Text.{first_zero, further, Found, none, found, text_from, after_length, string_text}
 use Rattle.string_data.specs.declared.Zero.{Zero}
 use Rattle.string_data.specs.declared.Zero.TheVariants as z
 use Rattle.string_data.proofs.Laws.{zero_here, zero_later, zero_in, text_ends, text_open, length_off, length_over, length_ends, length_more}

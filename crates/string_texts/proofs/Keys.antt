@@ -1,21 +1,19 @@
 -- The definitions of the texts' keys, a law for each way out of them: the strings passed have their keys, in order, and the first fault
 -- ends it; a text has an end exactly if it begins before the file's last zero; and the zero after the last start is the end of all.
 -- Assumes nothing.
-use Prim.Native.Nat.{ℕ, zero, suc, ◌+◌, ◌*◌, ◌-◌, ◌^◌, ◌<◌, ◌≤◌, min, max}
+use Prim.Native.Nat.{ℕ, zero, suc, ◌+◌, ◌*◌, ◌-◌, ◌<◌, ◌≤◌, min, max}
 use native.Mathlib.Omega.{arith}
 use native.Mathlib.Numerals.{add-one}
 use mathlib.Core.Path.{◌≡◌, refl, sym, ap, subst, ◌∙◌}
-use mathlib.Core.Logic.{◌≢◌, ◌⊎◌, inl, inr, ⊎_elim}
-use mathlib.Core.Bool.{true, false, cond}
-use mathlib.Core.List.{List, [], ◌∷◌, ◌++◌, append-nil}
-use lib.ListN.{length, get_or, take, drop, set, length-append, length-set, length-replicate}
-use lib.Dec.{ltb, eqb}
-use borrow.Author.Tests.{lt-ltb, le-ltb, eq-eqb, ne_eqb, eqb-false}
+use mathlib.Core.Logic.{◌≢◌, ⊎_elim}
+use mathlib.Core.List.{List, [], ◌∷◌}
+use lib.ListN.{length, set, length-append, length-set}
+use borrow.Author.Tests.{le-ltb, ne_eqb, eqb-false}
 use Rattle.words.specs.Padded.{zeros, padded}
-use Rattle.words.proofs.Padded.{padded_none, padded_push, padded_front}
+use Rattle.words.proofs.Padded.{padded_none, padded_push}
 use Rattle.dalvik.specs.Numbers.{byte, Bytes}
-use Rattle.dalvik.specs.Ids.{item, string_id_size, string_data_off}
-use Rattle.refusal.specs.Refusals.{refusal_number, largest_file, is_too_large}
+use Rattle.dalvik.specs.Ids.{string_data_off}
+use Rattle.refusal.specs.Refusals.{refusal_number, largest_file}
 use Rattle.refusal.specs.declared.Refusal.{Refusal}
 use Rattle.refusal.specs.declared.Refusal.TheVariants.{StringOutside}
 use Rattle.refusal.proofs.Numbers.{numbered}
@@ -26,12 +24,10 @@ use Rattle.string_texts.specs.declared.Start.{Start}
 use Rattle.string_texts.specs.declared.Start.TheVariants as b
 use Rattle.string_data.specs.declared.Zero.{Zero}
 use Rattle.string_data.specs.declared.Zero.TheVariants as z
-use Rattle.string_data.proofs.Laws.{text_ends, text_open, small_enough, inside}
-use Rattle.string_texts.proofs.Accepted.{Zeroed, zeroed, no_zero, Accepted, accepted}
-use Rattle.sort_keys.specs.Sorted.{sorted}
-use Rattle.sort_keys.proofs.Sorted.{length_sorted}
+use Rattle.string_data.proofs.Laws.{text_ends, text_open, small_enough}
+use Rattle.string_texts.proofs.Accepted.{zeroed, no_zero, accepted}
 use Rattle.sort_keys.proofs.Counts.{below?, same?}
-use Rattle.string_texts.specs.Texts.{text_of, fault_from, text_key, text_keys_of, texts_fault, Covers}
+use Rattle.string_texts.specs.Texts.{text_of, fault_from, text_key, text_keys_of, Covers}
 use Rattle.string_texts.specs.Steps.{LastZero, Readable, start_number, start_place, Begins, Put, PutAll, greatest_start}
 
 pub nonzero : (why : Refusal) → refusal_number why ≡ 0 → ⊥

@@ -2,13 +2,13 @@
 -- Assumes nothing.
 use Prim.Native.Nat.{ℕ, ◌-◌, ◌<◌, ◌≤◌}
 use native.Mathlib.Omega.{arith}
-use mathlib.Core.Path.{◌≡◌, refl, sym, ap, subst, ◌∙◌}
+use mathlib.Core.Path.{◌≡◌, sym, ap, subst, ◌∙◌}
 use mathlib.Core.Bool.{true, false, cond}
-use mathlib.Core.List.{List, [], ◌++◌}
-use lib.ListN.{length, take, drop, length-replicate}
+use mathlib.Core.List.{List, ◌++◌}
+use lib.ListN.{length, take, drop}
 use lib.Seq.{take_at, drop_at}
-use lib.Dec.{ltb, eqb}
-use borrow.Author.Tests.{lt-ltb, le-ltb, eq-eqb}
+use lib.Dec.{ltb}
+use borrow.Author.Tests.{lt-ltb, le-ltb}
 use Rattle.words.specs.Padded.{zeros, padded}
 use Rattle.words.proofs.Padded.{padded_none}
 use Rattle.dalvik.specs.Numbers.{Bytes}
@@ -25,7 +25,7 @@ use Rattle.sort_keys.specs.Sorted.{sorted}
 use Rattle.sort_keys.proofs.Sorted.{length_sorted}
 use Rattle.string_texts.specs.declared.Texts.{Texts}
 use Rattle.string_texts.specs.declared.Texts.TheVariants as t
-use Rattle.string_texts.specs.Texts.{fault_from, text_keys_of, texts_fault, texts_number, GivesTexts}
+use Rattle.string_texts.specs.Texts.{fault_from, text_keys_of, texts_fault, GivesTexts}
 use Rattle.string_texts.specs.Steps.{start_number, greatest_start, Finished}
 use Rattle.string_texts.specs.Steps.Finished.{short, whole}
 use Rattle.string_texts.proofs.Keys.{nonzero, length_text_keys, all_covered}
@@ -61,7 +61,7 @@ module _ (s : List ℕ) (strings : Table) (before : List ℕ) where
     pub gives_none : strings.size ≡ 0 → (after : List ℕ) → after ≡ zeros (length before) → GivesTexts s strings (t.Until 0) before after
     unfolding texts_fault fault_from sorted text_keys_of
     gives_none e after z =
-        let no : 0 ≡ fault = rw (small, e) in
+        let no : 0 ≡ fault = rw (small, le-ltb 0 strings.size (omega arith), e, le-ltb (length before) 0 (omega arith)) in
         record {
           number = no;
           covers = λ q. record { inside = omega arith; covers = λ i h. absurd (omega arith) };
@@ -94,5 +94,22 @@ module _ (s : List ℕ) (strings : Table) (before : List ℕ) where
         pub gives_finished : {last : ℕ} {x : Texts} (mid after : List ℕ) → Bytes s
             → (strings.size ≤ length before → mid ≡ padded (length before) (text_keys_of s strings.off strings.size)) → length mid ≡ length before
             → last ≡ greatest_start s strings.off strings.size → Finished s last strings.size x mid after → GivesTexts s strings x before after
-        gives_finished mid after bytes ks long e (short l q z) = ?
-        gives_finished mid after bytes ks long e (whole a l q f w) = ?
+        gives_finished mid after bytes ks long e (short l q z) =
+            subst (λ (y : Texts). GivesTexts s strings y before after) (sym q)
+            (gives_refused r.LentTooShort (sym (room_fault ∙ rw (lt-ltb (length before) strings.size (omega arith)))) after (z ∙ ap zeros long))
+        gives_finished mid after bytes ks long e (whole a l q f w) =
+            let keys = text_keys_of s strings.off strings.size in
+            let n = length_text_keys s strings.off strings.size in
+            let is : mid ≡ padded (length before) keys = ks (omega arith) in
+            let none : fault ≡ 0 = room_fault ∙ rw (le-ltb (length before) strings.size (omega arith)) in
+            let first : take strings.size mid ≡ keys = ap (take strings.size) is ∙ front (length before) strings.size keys n in
+            let there : after ≡ padded (length before) (sorted keys) =
+            w
+            ∙ rw (first, is)
+            (replaced (length before) strings.size keys (sorted keys) n (length_sorted keys ∙ n)) in
+            subst (λ (y : Texts). GivesTexts s strings y before after) (sym q)
+            (record {
+              number = sym none;
+              covers = λ _. all_covered s strings.off strings.size a bytes fine (rw e at f);
+              keys = rw none there;
+            })

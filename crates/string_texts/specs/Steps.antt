@@ -1,13 +1,13 @@
 -- What the inner steps are asked, and what they yield.
 -- Assumes nothing.
-use Rattle.std.specs.Prelude.{ℕ, zero, suc, ◌+◌, ◌-◌, ◌≤◌, ◌<◌, min, max, ◌≡◌, ◌≢◌, List, ◌++◌, length, set, take, drop}
+use Rattle.std.specs.Prelude.{ℕ, zero, suc, ◌-◌, ◌≤◌, ◌<◌, min, max, ◌≡◌, ◌≢◌, List, ◌++◌, length, set, take, drop}
 use Rattle.words.specs.Padded.{zeros, padded}
 use Rattle.dalvik.specs.Numbers.{byte}
 use Rattle.dalvik.specs.Ids.{item, string_id_size}
 use Rattle.refusal.specs.Refusals.{refusal_number, largest_file}
 use Rattle.refusal.specs.declared.Refusal.TheVariants.{LentTooShort}
 use Rattle.byte_search.specs.First.{Either, First}
-use Rattle.string_data.specs.Text.{Found, string_text}
+use Rattle.string_data.specs.Text.{Found}
 use Rattle.string_texts.specs.declared.Start.{Start}
 use Rattle.string_texts.specs.declared.Start.TheVariants as b
 use Rattle.sort_keys.specs.Sorted.{sorted}

@@ -1,4 +1,3 @@
-use Prim.Native.Nat.{◌-◌}
 use mathlib.Core.Path.{◌∙◌}
 use Rattle.string_texts.proofs.Keys.{passed_none, passed_fault, passed_one, passed_all}
 use native.Mathlib.Omega.{arith}

@@ -1,25 +1,52 @@
+-- `text_keys` meets its contract: each way out is one of the definition's, and the words were cleared before any.
+-- Assumes nothing.
+use Prim.Native.Nat.{ℕ}
+use native.Mathlib.Omega.{arith}
+use mathlib.Core.Path.{◌≡◌, refl, sym, ap, ◌∙◌}
+use lib.ListN.{length, length-replicate}
+use borrow.Author.Tests.{ltb-false}
+use Rattle.words.specs.Padded.{zeros, padded}
+use Rattle.refusal.specs.Refusals.{largest_file}
+use Rattle.string_texts.specs.Texts.{text_keys_of}
+use Rattle.string_texts.proofs.Whole.{gives_large, gives_none, gives_outside, gives_fault, gives_finished}
 use Rattle.string_texts.proofs.text_keys.Goals as goal
 
--- src/lib.rt:119:9
 pub returns-then-too_large : goal.returns-then-too_large
-returns-then-too_large c = record { gives = ? }
+returns-then-too_large c = record { gives = gives_large _ _ _ (sym c.too_large.ensures ∙ c.if-too_large.true) _ c.clear_wide.ensures }
 
--- src/lib.rt:123:9
 pub returns-then-n-eq0 : goal.returns-then-n-eq0
-returns-then-n-eq0 c = record { gives = ? }
+returns-then-n-eq0 c = record { gives = gives_none _ _ _ (sym c.too_large.ensures ∙ c.if-too_large.false) c.if-n-eq0.true _ c.clear_wide.ensures }
 
--- src/lib.rt:126:9
 pub returns-then-file-end : goal.returns-then-file-end
-returns-then-file-end c = record { gives = ? }
+returns-then-file-end c =
+    record {
+      gives = gives_outside _ _ _ (sym c.too_large.ensures ∙ c.if-too_large.false) (omega arith) (omega (arith, c.end.ensures)) _ c.clear_wide.ensures;
+    }
 
--- src/lib.rt:128:11
 pub put_keys-requires : goal.put_keys-requires
-put_keys-requires c = ?
+put_keys-requires c = (
+  record {
+    small = ltb-false largest_file (length c.args.file.now) (sym c.too_large.ensures ∙ c.if-too_large.false);
+    last = c.last_zero.ensures;
+  },
+  record { inside = omega (arith, c.end.ensures) },
+)
 
--- src/lib.rt:114:1
 pub returns-in-At : goal.returns-in-At
-returns-in-At c = record { gives = ? }
+returns-in-At c =
+    let put = c.in-At.ensures in
+    let cleared = c.clear_wide.ensures in
+    let same : length c.clear_wide.new.w ≡ length c.args.keys.now = ap length cleared ∙ length-replicate {A = ℕ} _ 0 in
+    record {
+      gives = gives_finished _ _ _ (sym c.too_large.ensures ∙ c.if-too_large.false) (omega arith) (omega (arith, c.end.ensures)) (sym put.number)
+          _ _ (λ i. omega (arith, c.type_inv.file i))
+          (λ k. put.words refl (omega (arith, same)) (cleared ∙ ap zeros (sym same)) ∙ ap (λ (m : ℕ). padded m (text_keys_of c.args.file.now c.args.strings.off c.args.strings.size)) same) (put.long ∙ same) (put.last refl) c.finish.ensures;
+    }
 
--- src/lib.rt:114:1
 pub returns-in-Refused : goal.returns-in-Refused
-returns-in-Refused c = record { gives = ? }
+returns-in-Refused c =
+    let same : length c.clear_wide.new.w ≡ length c.args.keys.now = ap length c.clear_wide.ensures ∙ length-replicate {A = ℕ} _ 0 in
+    record {
+      gives = gives_fault _ _ _ (sym c.too_large.ensures ∙ c.if-too_large.false) (omega arith) (omega (arith, c.end.ensures)) _ refl
+          c.in-Refused.ensures.number _ (c.clear_wide-in-Refused.ensures ∙ ap zeros (c.in-Refused.ensures.long ∙ same));
+    }

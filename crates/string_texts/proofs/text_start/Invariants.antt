@@ -2,7 +2,6 @@
 -- Assumes nothing.
 use Rattle.string_data.specs.Text.{after_length}
 use mathlib.Core.Path.{◌≡◌}
-use Prim.Native.Nat.{◌-◌}
 use Rattle.string_texts.proofs.text_start.Given as goal
 
 abbrev pub invariant-loop-left : goal.invariant-loop-left
