@@ -45,17 +45,17 @@ module _ (b : ℕ) where
 lower_zero : (x : ℕ) → lower_case x ≡ 0 → x ≡ 0
 lower_zero x e = ⊎_elim (λ (h : x ≡ 0). h) (λ h. absurd (omega (arith, h.0))) (was 0 x e)
 
-pub folded_zero : (any-case : Bool) (x : ℕ) → folded any-case x ≡ 0 → x ≡ 0
+pub folded_zero : (any_case : Bool) (x : ℕ) → folded any_case x ≡ 0 → x ≡ 0
 unfolding folded
 folded_zero true x e = lower_zero x e
 folded_zero false x e = e
 
 -- the two ways to compare
-module _ (any-case : Bool) (b : ℕ) where
-  pub case_ignored : any-case ≡ true → (r : ℕ) → r ≡ lower_case b → r ≡ folded any-case b
+module _ (any_case : Bool) (b : ℕ) where
+  pub case_ignored : any_case ≡ true → (r : ℕ) → r ≡ lower_case b → r ≡ folded any_case b
   unfolding folded
   case_ignored h r e = rw (h, e)
 
-  pub case_counts : any-case ≡ false → b ≡ folded any-case b
+  pub case_counts : any_case ≡ false → b ≡ folded any_case b
   unfolding folded
   case_counts h = rw h

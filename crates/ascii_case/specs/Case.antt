@@ -8,7 +8,7 @@ lower_case b = cond (leb 0x41 b && leb b 0x5a) (b + 32) b
 
 -- a byte as it is compared, case ignored or not
 unfoldable pub folded : Bool → ℕ → ℕ
-folded any-case b = cond any-case (lower_case b) b
+folded any_case b = cond any_case (lower_case b) b
 
 -- r is the other letter that counts as the small letter b, if there is one
 pub record Capital (b r : ℕ) : Type 0 where
