@@ -8,8 +8,7 @@ use mathlib.Core.Path.{◌≡◌, refl, sym, ap, ◌∙◌}
 use mathlib.Core.List.{List, [], ◌∷◌, ◌++◌}
 use lib.ListN.{length, set, length-append}
 use lib.Seq.{sets}
-use Rattle.start_words.specs.Starts.{with_array}
-use Rattle.dalvik.specs.CodeItem.{Code, start, stop}
+use Rattle.dalvik.specs.CodeItem.{Code}
 use Rattle.refusal.specs.declared.Refusal.{Refusal}
 use Rattle.class_data.specs.Walk.{Walk, following, and_on}
 use Rattle.class_data.specs.Walk.Walk.{refused, found}
@@ -39,7 +38,7 @@ triples_append (c ∷ xs) ys = rw (triples_append xs ys)
 
 starts_append : (zs : List ℕ) (xs ys : List Code) → starts_from zs (xs ++ ys) ≡ starts_from (starts_from zs xs) ys
 starts_append zs [] ys = refl
-starts_append zs (c ∷ xs) ys = starts_append (with_array zs c.method (start c) (stop c)) xs ys
+starts_append zs (c ∷ xs) ys = starts_append (starts_from zs (c ∷ [])) xs ys
 
 pub stored_following : (x : Kept) (cs : List Code) (v : Walk) → stored (more x cs) v ≡ stored x (following cs v)
 unfolding stored

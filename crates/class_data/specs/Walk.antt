@@ -100,7 +100,8 @@ code_inside s c =
 abbrev pub with_method : List ℕ → ℕ → ℕ → ℕ → Walk → Walk
 with_method s methods m c rest =
     cond (eqb c 0) rest
-    (cond (ltb m methods && ltb m most_methods) (cond (code_inside s c) (following (code_at s m c ∷ []) rest) (refused CodeOutside)) (refused MethodIndex))
+    (cond (ltb m methods && ltb m most_methods)
+    (cond (code_inside s c) (following (code_at s m c ∷ []) rest) (refused CodeOutside)) (refused MethodIndex))
 
 -- n methods from i on; m is the index before them, and `methods` counts the method ids
 unfoldable pub methods_from : ℕ → List ℕ → ℕ → ℕ → ℕ → Walk

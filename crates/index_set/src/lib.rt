@@ -4,7 +4,7 @@
 
 pub mod marked; // marked.rt: a set that is collected from words in any order
 
-ghost use Rattle.std.specs.Prelude.{◌≡◌, ◌+◌, ◌*◌, ◌<◌, length};
+ghost use Rattle.std.specs.Prelude.{◌≡◌, ◌*◌, ◌<◌, length};
 ghost use Rattle.word_set.specs.Sets.{Joins};
 ghost use Rattle.index_set.specs.Bits.{is_held, Adds, held_from, indices};
 

@@ -106,14 +106,18 @@ pub record MoreRoom : Type 0 where
   pub finder : (s : List ℕ) (h : DexHeader) (kind : ℕ) (wanted : List ℕ) (L L' : Lengths) → LongerAll L L' → (find_out s h kind wanted L).number ≡ 0
       → find_out s h kind wanted L' ≡ find_out s h kind wanted L
   -- the request and the texts of `refs`
-  pub request : (text : List ℕ) (words words' : ℕ) → words ≤ words' → (request_of text words).number ≡ 0 → request_of text words' ≡ request_of text words
-  pub head_text : (kind hits bytes bytes' : ℕ) → bytes ≤ bytes' → (head_out kind hits bytes).number ≡ 0 → head_out kind hits bytes' ≡ head_out kind hits bytes
+  pub request : (text : List ℕ) (words words' : ℕ) → words ≤ words' → (request_of text words).number ≡ 0
+      → request_of text words' ≡ request_of text words
+  pub head_text : (kind hits bytes bytes' : ℕ) → bytes ≤ bytes' → (head_out kind hits bytes).number ≡ 0
+      → head_out kind hits bytes' ≡ head_out kind hits bytes
   pub entry_text : (off idx : ℕ) (mids : List ℕ) (bytes bytes' : ℕ) → bytes ≤ bytes' → (entry_out off idx mids bytes).number ≡ 0
       → entry_out off idx mids bytes' ≡ entry_out off idx mids bytes
-  pub refusal_text : (why : Refusal) (bytes bytes' : ℕ) → bytes ≤ bytes' → (refusal_out why bytes).number ≡ 0 → refusal_out why bytes' ≡ refusal_out why bytes
+  pub refusal_text : (why : Refusal) (bytes bytes' : ℕ) → bytes ≤ bytes' → (refusal_out why bytes).number ≡ 0
+      → refusal_out why bytes' ≡ refusal_out why bytes
   pub line : (E : Entries) (words bytes words' bytes' i : ℕ) → words ≤ words' → bytes ≤ bytes' → (line_at E words bytes i).number ≡ 0
       → line_at E words' bytes' i ≡ line_at E words bytes i
-  pub lines : (E : Entries) (words bytes words' bytes' : ℕ) → words ≤ words' → bytes ≤ bytes' → tried_out E words bytes ≡ 0 → tried_out E words' bytes' ≡ 0
+  pub lines : (E : Entries) (words bytes words' bytes' : ℕ) → words ≤ words' → bytes ≤ bytes' → tried_out E words bytes ≡ 0
+      → tried_out E words' bytes' ≡ 0
 
 -- ---- what suffices
 
@@ -144,8 +148,8 @@ pub record NoFour : Type 0 where
       → names_kept given ≤ length out → answer_number r ≢ 4
   -- triples and shares by the codes found; a share's number has 31 bits
   pub code_table : (s : List ℕ) (h : DexHeader) (room : Room) → start_words h ≤ room.starts → slot_words (length s) ≤ room.slots
-      → code_words (codes_found (codes_of s h)) ≤ room.triples → code_words (codes_found (codes_of s h)) ≤ room.shares → codes_found (codes_of s h) ≤ 2 ^ 31
-      → (build_out s h room).number ≢ 4
+      → code_words (codes_found (codes_of s h)) ≤ room.triples → code_words (codes_found (codes_of s h)) ≤ room.shares
+      → codes_found (codes_of s h) ≤ 2 ^ 31 → (build_out s h room).number ≢ 4
   pub scan : (s : List ℕ) (A : ScanAsked) (room : HitRoom) → most_entries A.kind (length s) ≤ room.offs
       → most_entries A.kind (length s) ≤ room.marks → (scan_out s A room).number ≢ 4
   pub locate : (s : List ℕ) (T : Tables) (entries : List ℕ) (answers further : ℕ) → answer_words entries ≤ answers → further_words T.starts ≤ further

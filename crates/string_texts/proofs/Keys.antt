@@ -191,15 +191,19 @@ module _ (s : List ℕ) (table i : ℕ) where
         words = λ z. w ∙ ap (λ (k : ℕ). set before i (k * 4294967296 + i)) begins.place;
       }
 
--- ---- i of n strings
-pub record Passed (s : List ℕ) (table n : ℕ) (before after : List ℕ) (last i : ℕ) : Type 0 where
-  pub few : i ≤ n
-  pub rest : fault_from s table (n - i) i ≡ fault_from s table n 0
-  pub greatest : last ≡ greatest_start s table i
-  pub long : length after ≡ length before
-  pub words : n ≤ length before → before ≡ zeros (length before) → after ≡ padded (length before) (text_keys_of s table i)
+-- ---- i of n strings, the greatest start among them
+pub record Far : Type 0 where
+  pub last : ℕ
+  pub i : ℕ
 
-pub passed_none : (s : List ℕ) (table n : ℕ) (ws : List ℕ) → Passed s table n ws ws 0 0
+pub record Passed (s : List ℕ) (table n : ℕ) (before after : List ℕ) (far : Far) : Type 0 where
+  pub few : far.i ≤ n
+  pub rest : fault_from s table (n - far.i) far.i ≡ fault_from s table n 0
+  pub greatest : far.last ≡ greatest_start s table far.i
+  pub long : length after ≡ length before
+  pub words : n ≤ length before → before ≡ zeros (length before) → after ≡ padded (length before) (text_keys_of s table far.i)
+
+pub passed_none : (s : List ℕ) (table n : ℕ) (ws : List ℕ) → Passed s table n ws ws (record { last = 0; i = 0 })
 passed_none s table n ws =
     record {
       few = omega arith;
@@ -209,7 +213,7 @@ passed_none s table n ws =
       words = λ h z. z ∙ keys_none s table (length ws);
     }
 
-module _ {s : List ℕ} {table n : ℕ} {before mid : List ℕ} {last i : ℕ} (p : Passed s table n before mid last i) where
+module _ {s : List ℕ} {table n : ℕ} {before mid : List ℕ} {last i : ℕ} (p : Passed s table n before mid (record { last = last; i = i })) where
   pub passed_fault : i < n → {r : Start} {why : Refusal} → r ≡ b.Refused why → {after : List ℕ} → Put s table i r mid after
       → PutAll s table n r before after
   passed_fault h {r} {why} q g =
@@ -224,7 +228,7 @@ module _ {s : List ℕ} {table n : ℕ} {before mid : List ℕ} {last i : ℕ} (
       }
 
   pub passed_one : i < n → {r : Start} {a : ℕ} → r ≡ b.At a → {after : List ℕ} → Put s table i r mid after → {m : ℕ} → m ≡ max last a
-      → Passed s table n before after m (i + 1)
+      → Passed s table n before after (record { last = m; i = i + 1 })
   passed_one h {r} {a} q g e =
       let fine = ap start_number q in
       record {

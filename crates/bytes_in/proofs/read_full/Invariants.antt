@@ -1,3 +1,4 @@
+-- `read_full` meets its contract: each read takes what the reader has left first, and puts it after what was read so far. Assumes nothing.
 use Rattle.std.proofs.Common.{length, take, ◌-◌, ◌≤◌, ◌≡◌}
 use Rattle.std.specs.Io.KnownBytes.{Consumes}
 use Rattle.bytes_in.proofs.read_full.Given as goal

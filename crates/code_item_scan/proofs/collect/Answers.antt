@@ -6,7 +6,6 @@ use Rattle.code_item_scan.specs.Scan.{is_in, sought}
 use Rattle.code_item_scan.specs.Next.{FirstHit, Finds}
 use Rattle.code_item_scan.proofs.Whole.{going_start, going_on, going_end}
 use native.Mathlib.Omega.{arith}
-use Rattle.code_item_scan.proofs.collect.Goals.{After-next_hit, In-At-2}
 use Rattle.code_item_scan.proofs.collect.Goals as goal
 
 pub loop-off-init : goal.loop-off-init

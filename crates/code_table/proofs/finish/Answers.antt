@@ -9,7 +9,6 @@ use Rattle.dalvik.specs.CodeItem.{Code}
 use Rattle.code_table.specs.Answer.{table_words}
 use Rattle.code_table.specs.Steps.{most_buckets, Triples, slot_words, HoldsAll}
 use Rattle.code_table.proofs.Build.{top_small, base_below, whole, short, tabled_filled, tabled_short}
-use Rattle.code_table.proofs.finish.Goals.{In-Filled}
 use Rattle.code_table.proofs.finish.Goals as goal
 
 -- its buckets

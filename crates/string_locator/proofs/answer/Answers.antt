@@ -8,7 +8,6 @@ use mathlib.Core.Logic.{⊎_elim}
 use mathlib.Core.Path.{◌≡◌, sym, ◌∙◌}
 use native.Mathlib.Nat.{eq-or-lt_of_le}
 use native.Mathlib.Omega.{arith}
-use Rattle.string_locator.proofs.answer.Goals.{Else-too_large}
 use Rattle.string_locator.proofs.answer.Goals as goal
 
 pub returns-then-too_large : goal.returns-then-too_large

@@ -6,7 +6,6 @@ use lib.ListN.{length}
 use Rattle.string_locator.specs.Map.{says, area}
 use Rattle.words.proofs.Shared.{met}
 use native.Mathlib.Omega.{arith}
-use Rattle.string_locator.proofs.build_map.Goals.{In-Map-2}
 use Rattle.string_locator.proofs.build_map.Goals as goal
 
 pub returns-in_default : goal.returns-in_default
