@@ -11,9 +11,9 @@ use lib.Seq.{sets, sets-eq}
 use borrow.Author.Tests.{le-leb, lt-leb}
 use Rattle.words.specs.Padded.{zeros, padded}
 use Rattle.words.proofs.Padded.{padded_none, padded_front}
-use Rattle.start_words.specs.Starts.{with_array, pairs_in, pair_count, no_starts}
+use Rattle.start_words.specs.Starts.{pairs_in, pair_count, no_starts}
 use Rattle.start_words.proofs.Starts.{length_with, with_padded, count_none, none_padded}
-use Rattle.dalvik.specs.CodeItem.{Code, start, stop}
+use Rattle.dalvik.specs.CodeItem.{Code}
 use Rattle.refusal.specs.Refusals.{is_too_large}
 use Rattle.refusal.specs.declared.Refusal.{Refusal}
 use Rattle.refusal.specs.declared.Refusal.TheVariants.{FileTooLarge, LentTooShort}
@@ -44,7 +44,7 @@ starts_padded s m n ws [] e a = refl
 starts_padded s m n ws (c ∷ cs) e a =
     let q : c.method < pair_count ws = omega (arith, a.0.index) in
     ap (λ (l : List ℕ). starts_from l cs) (with_padded ws c.method _ _ n q)
-    ∙ starts_padded s m n (with_array ws c.method (start c) (stop c)) cs (ap pairs_in (length_with ws c.method _ _) ∙ e) a.1
+    ∙ starts_padded s m n (starts_from ws (c ∷ [])) cs (ap pairs_in (length_with ws c.method _ _) ∙ e) a.1
 
 starts_zeros : (s : List ℕ) (m n : ℕ) (cs : List Code) → m ≤ pairs_in n → Each (CodeIn s m) cs → starts_from (zeros n) cs ≡ padded n (starts_of m cs)
 unfolding starts_of

@@ -16,10 +16,10 @@ use Rattle.words.specs.Padded.{stretch}
 use Rattle.words.proofs.Shared.{cond_elim}
 use Rattle.refusal.specs.Refusals.{refusal_number, is_too_large}
 use Rattle.refusal.proofs.Numbers.{some_number}
-use Rattle.start_words.specs.Starts.{with_array, pairs_in, no_starts}
+use Rattle.start_words.specs.Starts.{pairs_in, no_starts}
 use Rattle.start_words.proofs.Starts.{length_with, length_none}
 use Rattle.tinydex.specs.declared.DexHeader.{DexHeader}
-use Rattle.dalvik.specs.CodeItem.{Code, start, stop}
+use Rattle.dalvik.specs.CodeItem.{Code}
 use Rattle.class_data.specs.Walk.{Walk, most_methods}
 use Rattle.class_data.specs.Walk.Walk.{refused, found}
 use Rattle.class_data.specs.Codes.{codes_of}
@@ -128,7 +128,7 @@ module _ (methods : ℕ) where
 -- ---- the start words: two for each method
 from_length : (ws : List ℕ) (cs : List Code) → length (starts_from ws cs) ≡ length ws
 from_length ws [] = refl
-from_length ws (c ∷ cs) = from_length (with_array ws c.method (start c) (stop c)) cs ∙ length_with ws c.method _ _
+from_length ws (c ∷ cs) = from_length (starts_from ws (c ∷ [])) cs ∙ length_with ws c.method _ _
 
 pub starts_of_length : (methods : ℕ) (cs : List Code) → length (starts_of methods cs) ≡ 2 * methods
 unfolding starts_of

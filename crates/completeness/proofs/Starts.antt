@@ -5,7 +5,7 @@ use native.Mathlib.Omega.{arith}
 use mathlib.Core.Path.{◌≡◌, refl, ◌∙◌}
 use mathlib.Core.List.{List, [], ◌∷◌, Memᴰ}
 use mathlib.Core.Option.{some}
-use Rattle.start_words.specs.Starts.{pair_count, Pair, pair, pair_of, with_array, no_starts}
+use Rattle.start_words.specs.Starts.{pair_count, Pair, pair, pair_of, no_starts}
 use Rattle.start_words.proofs.Starts.{length_with, array_same, array_other, length_none}
 use Rattle.dalvik.specs.CodeItem.{Code, start, stop}
 use Rattle.class_data.specs.Stored.{starts_from, starts_of}
@@ -14,7 +14,7 @@ use Rattle.completeness.specs.Completeness.{Distinct, methods_of}
 starts_other : (ws : List ℕ) (cs : List Code) (m : ℕ) → (Memᴰ m (methods_of cs) → ⊥) → pair_of (starts_from ws cs) m ≡ pair_of ws m
 starts_other ws [] m f = refl
 starts_other ws (c ∷ cs) m f =
-    starts_other (with_array ws c.method (start c) (stop c)) cs m (λ k. f (Memᴰ.tail k)) ∙ array_other ws c.method _ _ m (λ e. f (Memᴰ.head e))
+    starts_other (starts_from ws (c ∷ [])) cs m (λ k. f (Memᴰ.tail k)) ∙ array_other ws c.method _ _ m (λ e. f (Memᴰ.head e))
 
 -- where the array of c starts and ends
 abbrev pub array_of : Code → Pair
