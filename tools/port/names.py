@@ -22,8 +22,8 @@ OTHERS = {
     "first-of": "first_of_list", "alone-out": "out_alone", "units-by": "units_told", "first-zero": "zero_first", "search-fault": "search_faults",
     "first-fault": "first_faults", "filter-fault": "filter_faults", "method-fault": "method_faults", "string-text": "text_of_string",
 }
-# files of one function's proof
-MADE = ("Proof.antt", "Answers.antt", "Invariants.antt")
+# files of one function's proof, in its folder of proofs/
+MADE = re.compile(r"/proofs/.*/(Proof|Answers|Invariants)\.antt$")
 NOT_HEADS = {"use", "module", "let", "in", "record", "data", "where", "unfolding", "elim", "rw", "case"}
 
 
@@ -72,7 +72,7 @@ def main():
     root = os.path.abspath(sys.argv[1]) if len(sys.argv) > 1 else os.path.dirname(os.path.dirname(os.path.dirname(os.path.abspath(__file__))))
     own, where = set(), {}
     for p in files(root, ("specs", "proofs"), ".antt"):
-        if os.path.basename(p) in MADE:
+        if MADE.search(p):
             continue
         for h in heads(read(p)):
             own.add(h)
@@ -102,7 +102,7 @@ def main():
         return 2 if clash else 0
     for p in list(files(root, ("specs", "proofs"), ".antt")) + list(files(root, ("must-fail",), ".edit")):
         old = read(p)
-        new = turn(old, names, os.path.basename(p) in MADE)
+        new = turn(old, names, bool(MADE.search(p)))
         if new != old:
             with open(p, "w", encoding="utf-8") as f:
                 f.write(new)
