@@ -1,4 +1,4 @@
--- The texts of a file's strings (SPEC, Phrases): a key for each string, of the place where its text begins and its index, sorted. Faults in
+-- The texts of a file's strings: a key for each string, of the place where its text begins and its index, sorted. Faults in
 -- order: 1; 3; those of the strings, in the order of their indices; 4.
 -- Assumes nothing.
 use Rattle.std.specs.Prelude.{ℕ, zero, suc, ◌+◌, ◌*◌, ◌^◌, ◌≤◌, ◌<◌, ◌≡◌, cond, ◌&&◌, List, [], ◌∷◌, ◌++◌, length, ltb, eqb}
