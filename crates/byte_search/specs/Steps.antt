@@ -6,10 +6,6 @@ use Rattle.std.specs.Prelude.{ℕ, ◌+◌, ◌≤◌, ◌<◌, ◌≡◌, ◌�
 pub record Lane (x y : ℕ) (Counts : Type 0) (r : ℕ) : Type 0 where
   pub cases : ((r ≡ x) × Counts) ⊎ ((r ≡ y) × (Counts → ⊥))
 
--- i where it counts and is less, else `first`
-pub record Nearer (first i : ℕ) (Counts : Type 0) (r : ℕ) : Type 0 where
-  pub cases : ((r ≡ i) × (i < first) × Counts) ⊎ ((r ≡ first) × (Counts → first ≤ i))
-
 -- one of the n places from p on is of the kind
 pub record One (P : ℕ → Type 0) (p n : ℕ) : Type 0 where
   pub at : ℕ

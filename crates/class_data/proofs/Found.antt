@@ -1,11 +1,11 @@
 -- What the codes of a file keep to, and an answer of `codes`, taken apart. What holds of each class data item's codes holds of all.
 -- Assumes nothing.
+use Rattle.std.specs.Prelude.{Ok, Err, Option, None, Some}
 use Prim.Native.Nat.{ℕ, zero, suc, ◌+◌, ◌*◌, ◌≤◌}
 use native.Mathlib.Omega.{arith}
 use mathlib.Core.Path.{◌≡◌, refl, sym, ap, subst, ◌∙◌}
 use mathlib.Core.Bool.{Bool, true, false, cond}
 use mathlib.Core.List.{List}
-use mathlib.Core.Option.{Option, none, some}
 use lib.ListN.{length}
 use lib.Dec.{leb, eqb}
 use borrow.Author.Tests.{ltb-false, leb-true}
@@ -16,7 +16,6 @@ use Rattle.start_words.specs.Starts.{pairs_in, pair_count}
 use Rattle.refusal.specs.Refusals.{largest_file, is_too_large}
 use Rattle.refusal.specs.declared.Refusal.{Refusal}
 use Rattle.refusal.specs.declared.Refusal.TheVariants.{FileTooLarge, LentTooShort}
-use Rattle.refusal.specs.declared.Answer.TheVariants.{Done, Refused}
 use Rattle.dalvik.specs.CodeItem.{Code}
 use Rattle.dalvik.specs.ClassData.{class_def_size, class_data_off}
 use Rattle.dalvik.specs.MapList.{map_size, map_offset}
@@ -68,8 +67,8 @@ module _ (s : List ℕ) (m : ℕ) where
       (λ _. tt)
 
 entry_each : (s : List ℕ) (h : DexHeader) (r : Option ℕ) → EachR s h.methods.size (by_entry s h r)
-entry_each s h none = defined_each s h.methods.size h.classes.size h.classes.off
-entry_each s h (some e) = successive_each s h.methods.size (map_size s e) (map_offset s e)
+entry_each s h None = defined_each s h.methods.size h.classes.size h.classes.off
+entry_each s h (Some e) = successive_each s h.methods.size (map_size s e) (map_offset s e)
 
 pub codes_sound : (s : List ℕ) (h : DexHeader) (cs : List Code) (e : ℕ) → found cs e ≡ codes_of s h → Each (CodeIn s h.methods.size) cs
 unfolding codes_of
@@ -129,7 +128,7 @@ pub record NotTaken (s : List ℕ) (h : DexHeader) (r : Refusal) (before after :
   pub starts : after.starts ≡ zeros (length before.starts)
 
 module _ (s : List ℕ) (h : DexHeader) (before after : CodeWords) where
-  taken_by : (n : ℕ) (v : Walk) → v ≡ codes_for s h before → GivesCodes h.methods.size v (Done n) before after → Taken s h n before after
+  taken_by : (n : ℕ) (v : Walk) → v ≡ codes_for s h before → GivesCodes h.methods.size v (Ok n) before after → Taken s h n before after
   taken_by n (refused r) e g = absurd (let a = g.answer in let x : ◌≡◌ {A = ℕ} 0 1 = cc in omega arith)
   taken_by n (found cs i) e g =
       let f = codes_fit s h (length before.triples) (length before.starts) cs i e in
@@ -147,10 +146,10 @@ module _ (s : List ℕ) (h : DexHeader) (before after : CodeWords) where
         each = codes_sound s h cs i f.walk;
       }
 
-  pub taken : (n : ℕ) → GivesCodes h.methods.size (codes_for s h before) (Done n) before after → Taken s h n before after
+  pub taken : (n : ℕ) → GivesCodes h.methods.size (codes_for s h before) (Ok n) before after → Taken s h n before after
   taken n g = taken_by n (codes_for s h before) refl g
 
-  not_by : (r : Refusal) (v : Walk) → v ≡ codes_for s h before → GivesCodes h.methods.size v (Refused r) before after → NotTaken s h r before after
+  not_by : (r : Refusal) (v : Walk) → v ≡ codes_for s h before → GivesCodes h.methods.size v (Err r) before after → NotTaken s h r before after
   not_by r (refused y) e g =
       let a = g.answer in
       let x : refused r ≡ refused y = cc in
@@ -161,5 +160,5 @@ module _ (s : List ℕ) (h : DexHeader) (before after : CodeWords) where
       }
   not_by r (found cs i) e g = absurd (let a = g.answer in let x : ◌≡◌ {A = ℕ} 0 1 = cc in omega arith)
 
-  pub not_taken : (r : Refusal) → GivesCodes h.methods.size (codes_for s h before) (Refused r) before after → NotTaken s h r before after
+  pub not_taken : (r : Refusal) → GivesCodes h.methods.size (codes_for s h before) (Err r) before after → NotTaken s h r before after
   not_taken r g = not_by r (codes_for s h before) refl g

@@ -1,10 +1,11 @@
 -- The outcome of `codes`, a law for each way out of it. Stores into cleared words are the list and zeros after it, since each code's method
 -- is below the count of method ids and its triple stands after the one before.
 -- Assumes nothing.
+use Rattle.std.specs.Prelude.{Result, Ok, Err, is_err}
 use Prim.Native.Nat.{ℕ, ◌+◌, ◌*◌, ◌/◌, ◌<◌, ◌≤◌}
 use native.Mathlib.Omega.{arith}
 use mathlib.Core.Path.{◌≡◌, refl, sym, ap, subst, ◌∙◌}
-use mathlib.Core.Bool.{true, false}
+use mathlib.Core.Bool.{true, false, true≢false}
 use mathlib.Core.List.{List, [], ◌∷◌}
 use lib.ListN.{length, length-replicate}
 use lib.Seq.{sets, sets-eq}
@@ -17,8 +18,6 @@ use Rattle.dalvik.specs.CodeItem.{Code}
 use Rattle.refusal.specs.Refusals.{is_too_large}
 use Rattle.refusal.specs.declared.Refusal.{Refusal}
 use Rattle.refusal.specs.declared.Refusal.TheVariants.{FileTooLarge, LentTooShort}
-use Rattle.refusal.specs.declared.Answer.{Answer}
-use Rattle.refusal.specs.declared.Answer.TheVariants.{Done, Refused}
 use Rattle.tinydex.specs.declared.DexHeader.{DexHeader}
 use Rattle.class_data.specs.Walk.{Walk}
 use Rattle.class_data.specs.Walk.Walk.{refused, found}
@@ -88,7 +87,7 @@ module _ (s : List ℕ) (h : DexHeader) (lent : CodeWords) where
             codes_full x.walk (omega (arith, x.count))
 
         pub fit_all : Cleared lent cleared → y.count ≤ length lent.triples / 3
-            → FitCodes h.methods.size (codes_for s h lent) (Done y.count) lent y.words
+            → FitCodes h.methods.size (codes_for s h lent) (Ok y.count) lent y.words
         unfolding FitCodes
         fit_all z q =
             let x = left_by (kept 0 cleared) (codes_of s h) i y e in
@@ -96,9 +95,9 @@ module _ (s : List ℕ) (h : DexHeader) (lent : CodeWords) where
             let m : ℕ = h.methods.size in
             let k : y.count ≡ length cs = omega (arith, x.count) in
             let o : 3 * length cs ≤ length lent.triples = omega arith in
-            subst (λ (v : Walk). GivesCodes m v (Done y.count) lent y.words) (codes_fits x.walk o)
+            subst (λ (v : Walk). GivesCodes m v (Ok y.count) lent y.words) (codes_fits x.walk o)
             (record {
-              answer = ap Done k;
+              answer = ap Ok k;
               triples =
                   ap (λ (v : Kept). v.words.triples) x.is ∙ ap (λ (w : List ℕ). sets w 0 (triples_of cs)) z.triples
                   ∙ triples_padded (length lent.triples) cs o;
@@ -109,9 +108,9 @@ module _ (s : List ℕ) (h : DexHeader) (lent : CodeWords) where
 
 -- a refusal with cleared words
 pub gives_refused : {m : ℕ} {v : Walk} {r : Refusal} {before after : CodeWords} → refused r ≡ v → Cleared before after
-    → GivesCodes m v (Refused r) before after
+    → GivesCodes m v (Err r) before after
 gives_refused {m} {v} {r} {before} {after} e z =
-    subst (λ (x : Walk). GivesCodes m x (Refused r) before after) e
+    subst (λ (x : Walk). GivesCodes m x (Err r) before after) e
     (record {
       answer = refl;
       triples = z.triples ∙ sym (padded_none (length before.triples));
@@ -120,18 +119,22 @@ gives_refused {m} {v} {r} {before} {after} e z =
 
 -- ---- before the words of a refusal are cleared
 module _ (m : ℕ) (v : Walk) (before after : CodeWords) where
-  pub fit_refused : {r : Refusal} → refused r ≡ v → FitCodes m v (Refused r) before after
+  pub fit_refused : {r : Refusal} → refused r ≡ v → FitCodes m v (Err r) before after
   unfolding FitCodes
   fit_refused e = e
 
-  module _ (a : Answer) (q : FitCodes m v a before after) where
-    pub done_told : {n : ℕ} → a ≡ Done n → GivesCodes m v (Done n) before after
-    unfolding FitCodes
-    done_told e = subst (λ (x : Answer). FitCodes m v x before after) e q
+  -- no refusal: the words are the outcome's
+  pub fit_kept : (a : Result ℕ Refusal) → FitCodes m v a before after → false ≡ is_err a → GivesCodes m v a before after
+  unfolding FitCodes
+  fit_kept (Ok n) q e = q
+  fit_kept (Err r) q e = absurd (true≢false (sym e))
 
-    pub refused_told : {r : Refusal} → a ≡ Refused r → refused r ≡ v
-    unfolding FitCodes
-    refused_told e = subst (λ (x : Answer). FitCodes m v x before after) e q
+  -- a refusal, and cleared words
+  pub fit_cleared : (a : Result ℕ Refusal) → FitCodes m v a before after → true ≡ is_err a → {cleared : CodeWords} → Cleared before cleared
+      → GivesCodes m v a before cleared
+  unfolding FitCodes
+  fit_cleared (Ok n) q e z = absurd (true≢false e)
+  fit_cleared (Err r) q e z = gives_refused q z
 
 -- words cleared again, as long as they came
 pub cleared_again : {before mid after : CodeWords} → Cleared mid after → SameLengths before mid → Cleared before after

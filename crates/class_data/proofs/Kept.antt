@@ -1,6 +1,7 @@
 -- What a walk leaves in lent words: a walk and then another store one list after the other, so that each step goes on from what the
 -- one before it left.
 -- Assumes nothing.
+use Rattle.std.specs.Prelude.{Result, Ok, Err}
 use Prim.Native.Nat.{ℕ, suc, ◌+◌, ◌*◌}
 use native.Mathlib.Omega.{arith}
 use native.Mathlib.Nat.{add-zero}
@@ -16,7 +17,6 @@ use Rattle.class_data.specs.Stored.{CodeWords, code_words, triples_of, starts_fr
 use Rattle.class_data.specs.Steps.{Kept, kept, more, Left, stored, seen}
 use Rattle.class_data.specs.Steps.Left.{refusal, left}
 use Rattle.class_data.specs.declared.parse.Walked.{Walked}
-use Rattle.class_data.specs.declared.parse.Walked.TheVariants as w
 
 -- three words for each code
 pub length_triples : (cs : List Code) → length (triples_of cs) ≡ 3 * length cs
@@ -91,21 +91,21 @@ left_by x (found cs i) e y q =
     record { codes = cs; walk = (cc); is = b; count = ap (λ (z : Kept). z.count) b }
 
 -- ---- an answer's case
-module _ (v : Walked) (ws : CodeWords) (d : Left) (e : seen v ws ≡ d) where
-  pub seen_found : (i k : ℕ) → v ≡ w.Found i k → left i (kept k ws) ≡ d
+module _ (v : Result Walked Refusal) (ws : CodeWords) (d : Left) (e : seen v ws ≡ d) where
+  pub seen_found : (x : Walked) → v ≡ Ok x → left x.next (kept x.count ws) ≡ d
   unfolding seen
-  seen_found i k q = rw q at e
+  seen_found x q = rw q at e
 
-  pub seen_refused : (r : Refusal) → v ≡ w.Refused r → refusal r ≡ d
+  pub seen_refused : (r : Refusal) → v ≡ Err r → refusal r ≡ d
   unfolding seen
   seen_refused r q = rw q at e
 
 module _ (ws : CodeWords) (d : Left) where
-  pub found_seen : (i k : ℕ) → left i (kept k ws) ≡ d → seen (w.Found i k) ws ≡ d
+  pub found_seen : (i k : ℕ) → left i (kept k ws) ≡ d → seen (Ok (record { next = i; count = k })) ws ≡ d
   unfolding seen
   found_seen i k e = e
 
-  pub refused_seen : (r : Refusal) → refusal r ≡ d → seen (w.Refused r) ws ≡ d
+  pub refused_seen : (r : Refusal) → refusal r ≡ d → seen (Err r) ws ≡ d
   unfolding seen
   refused_seen r e = e
 

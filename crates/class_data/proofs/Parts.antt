@@ -1,5 +1,6 @@
 -- What the reads give together: an item up to its methods, and a method with its code, each by what was read of it before.
 -- Assumes nothing.
+use Rattle.std.specs.Prelude.{Some, None, Result, Ok, Err}
 use Prim.Native.Nat.{ℕ, suc, ◌<◌, ◌≤◌}
 use mathlib.Core.Path.{◌≡◌, ap, subst, ◌∙◌}
 use mathlib.Core.Bool.{true, false}
@@ -7,41 +8,24 @@ use mathlib.Core.List.{List, [], ◌∷◌}
 use borrow.Author.Tests.{lt-ltb, le-ltb, eq-eqb, ne_eqb}
 use Rattle.refusal.specs.declared.Refusal.{Refusal}
 use Rattle.refusal.specs.declared.Refusal.TheVariants.{MethodIndex, CodeOutside}
-use Rattle.class_data.specs.Walk.{Walk, following, and_on, skipped, sizes_at, methods_at}
+use Rattle.class_data.specs.Walk.{Walk, following, and_on, methods_at}
 use Rattle.class_data.specs.Walk.{most_methods, code_at, code_inside, with_method, methods_from, class_data_at}
 use Rattle.class_data.specs.Walk.Walk.{refused}
-use Rattle.class_data.specs.Steps.{HeadAt, item_at, BareAt, CodedAt, MethodRead}
-use Rattle.class_data.specs.declared.item.Skipped.TheVariants as k
-use Rattle.class_data.specs.declared.item.Sizes.TheVariants as z
-use Rattle.class_data.specs.declared.item.Methods.TheVariants as m
-use Rattle.class_data.specs.declared.item.Item.TheVariants as t
+use Rattle.class_data.specs.Steps.{HeadAt, item_at, BareAt, CodedAt, MethodAt, MethodRead}
+use Rattle.class_data.specs.declared.item.Methods.{Methods}
+use Rattle.class_data.specs.declared.item.Head.{Head}
+use Rattle.class_data.specs.declared.item.CodeItem.{CodeItem}
 use Rattle.class_data.specs.declared.item.Method.{Method}
-use Rattle.class_data.specs.declared.item.Method.TheVariants as d
 use Rattle.class_data.proofs.Laws.{item_out, item_in, item_facts}
-
--- ---- an item up to its methods
-module _ (s : List ℕ) (i : ℕ) where
-  pub methods_no1 : {y : Refusal} → z.Refused y ≡ sizes_at s i → m.Refused y ≡ methods_at s i
-  unfolding methods_at
-  methods_no1 e = rw (← e)
-
-  module _ {n a v p : ℕ} (e : z.At n a v p ≡ sizes_at s i) where
-    pub methods_no2 : {y : Refusal} → k.Refused y ≡ skipped n s p → m.Refused y ≡ methods_at s i
-    unfolding methods_at
-    methods_no2 q = rw (← e, ← q)
-
-    pub methods_read : {o : ℕ} → k.To o ≡ skipped n s p → m.At a v o ≡ methods_at s i
-    unfolding methods_at
-    methods_read q = rw (← e, ← q)
 
 -- the item is walked from its first method on
 module _ (s : List ℕ) (methods i : ℕ) where
-  pub class_refused : {y : Refusal} → m.Refused y ≡ methods_at s i → refused y ≡ class_data_at s methods i
+  pub class_refused : {y : Refusal} → Err y ≡ methods_at s i → refused y ≡ class_data_at s methods i
   unfolding class_data_at
   class_refused e = rw (← e)
 
-  pub class_from : {a v p : ℕ} → m.At a v p ≡ methods_at s i
-      → and_on (methods_from a s methods p 0) (λ f. methods_from v s methods f 0) ≡ class_data_at s methods i
+  pub class_from : {d : Methods} → Ok d ≡ methods_at s i
+      → and_on (methods_from d.direct s methods d.pos 0) (λ f. methods_from d.virt s methods f 0) ≡ class_data_at s methods i
   unfolding class_data_at
   class_from e = rw (← e)
 
@@ -66,43 +50,44 @@ module _ (s : List ℕ) (methods j c : ℕ) (rest : Walk) where
         with_code d = rw (ne_eqb _ _ q, lt-ltb _ _ a, lt-ltb _ _ b, d)
 
 pub method_refused : (s : List ℕ) (methods i m : ℕ) {y : Refusal} → ((methods n : ℕ) → refused y ≡ methods_from (suc n) s methods i m)
-    → MethodRead s methods i m (d.Refused y)
+    → MethodRead s methods i m (Err y)
 unfolding MethodRead
 method_refused s methods i m e = e methods
 
-module _ (methods : ℕ) {s : List ℕ} {i m p j c : ℕ} (q : HeadAt s i m p j c) where
+module _ (methods : ℕ) {s : List ℕ} {i m : ℕ} {x : Head} (q : HeadAt s i m x) where
   -- what is after the method
   abbrev more : ℕ → Walk
-  more n = methods_from n s methods p j
+  more n = methods_from n s methods x.pos x.idx
 
-  pub method_bare : c ≡ 0 → MethodRead s methods i m (d.Bare p j)
+  pub method_bare : x.code ≡ 0 → MethodRead s methods i m (Ok (record { pos = x.pos; idx = x.idx; code = None }))
   unfolding MethodRead
-  method_bare z = record { rest = λ n. with_none s methods j c (more n) z ∙ q.rest methods n; on = q.on; inside = q.inside }
+  method_bare z = record { rest = λ n. with_none s methods x.idx x.code (more n) z ∙ q.rest methods n; on = q.on; inside = q.inside }
 
-  module _ (z : c ≡ 0 → ⊥) where
-    pub method_index : methods ≤ j → MethodRead s methods i m (d.Refused MethodIndex)
+  module _ (z : x.code ≡ 0 → ⊥) where
+    pub method_index : methods ≤ x.idx → MethodRead s methods i m (Err MethodIndex)
     unfolding MethodRead
-    method_index x = λ n. with_index s methods j c (more n) z x ∙ q.rest methods n
+    method_index a = λ n. with_index s methods x.idx x.code (more n) z a ∙ q.rest methods n
 
-    module _ (x : j < methods) where
-      pub method_large : most_methods ≤ j → MethodRead s methods i m (d.Refused MethodIndex)
+    module _ (a : x.idx < methods) where
+      pub method_large : most_methods ≤ x.idx → MethodRead s methods i m (Err MethodIndex)
       unfolding MethodRead
-      method_large y = λ n. with_large s methods j c (more n) z x y ∙ q.rest methods n
+      method_large b = λ n. with_large s methods x.idx x.code (more n) z a b ∙ q.rest methods n
 
-      module _ (y : j < most_methods) where
-        pub method_outside : t.Outside ≡ item_at s c → MethodRead s methods i m (d.Refused CodeOutside)
+      module _ (b : x.idx < most_methods) where
+        pub method_outside : None ≡ item_at s x.code → MethodRead s methods i m (Err CodeOutside)
         unfolding MethodRead
-        method_outside e = λ n. with_outside s methods j c (more n) z x y (item_out s c e) ∙ q.rest methods n
+        method_outside e = λ n. with_outside s methods x.idx x.code (more n) z a b (item_out s x.code e) ∙ q.rest methods n
 
-        pub method_coded : {u : ℕ} → t.Units u ≡ item_at s c → MethodRead s methods i m (d.Coded p j c u)
+        pub method_coded : {u : ℕ} → Some u ≡ item_at s x.code
+            → MethodRead s methods i m (Ok (record { pos = x.pos; idx = x.idx; code = Some (record { off = x.code; units = u }) }))
         unfolding MethodRead
         method_coded {u} e =
-            let v = item_in s c u e in
-            let f = item_facts s c u e in
+            let v = item_in s x.code u e in
+            let f = item_facts s x.code u e in
             record {
               rest = λ n.
-                  ap (λ (k : ℕ). following (record { method = j; off = c; units = k } ∷ []) (more n)) v.1
-                  ∙ with_code s methods j c (more n) z x y v.0
+                  ap (λ (k : ℕ). following (record { method = x.idx; off = x.code; units = k } ∷ []) (more n)) v.1
+                  ∙ with_code s methods x.idx x.code (more n) z a b v.0
                   ∙ q.rest methods n;
               on = q.on;
               inside = q.inside;
@@ -110,15 +95,18 @@ module _ (methods : ℕ) {s : List ℕ} {i m p j c : ℕ} (q : HeadAt s i m p j 
               fits = f.inside;
             }
 
-module _ (s : List ℕ) (methods i m : ℕ) (r : Method) (q : MethodRead s methods i m r) where
-  pub bare_told : {p j : ℕ} → r ≡ d.Bare p j → BareAt s methods i m p j
+module _ (s : List ℕ) (methods i m : ℕ) (r : Result Method Refusal) (q : MethodRead s methods i m r) where
+  method_told : {x : Method} → r ≡ Ok x → MethodAt s methods i m x
   unfolding MethodRead
-  bare_told e = subst (MethodRead s methods i m) e q
+  method_told e = subst (MethodRead s methods i m) e q
 
-  pub coded_told : {p j c u : ℕ} → r ≡ d.Coded p j c u → CodedAt s methods i m p (record { method = j; off = c; units = u })
-  unfolding MethodRead
-  coded_told e = subst (MethodRead s methods i m) e q
+  pub bare_told : {x : Method} → r ≡ Ok x → x.code ≡ None → BareAt s methods i m x.pos x.idx
+  bare_told {x} e z = rw z at (method_told e)
 
-  pub refused_told : {y : Refusal} → r ≡ d.Refused y → (n : ℕ) → refused y ≡ methods_from (suc n) s methods i m
+  pub coded_told : {x : Method} {c : CodeItem} → r ≡ Ok x → x.code ≡ Some c
+      → CodedAt s methods i m x.pos (record { method = x.idx; off = c.off; units = c.units })
+  coded_told {x} e z = rw z at (method_told e)
+
+  pub refused_told : {y : Refusal} → r ≡ Err y → (n : ℕ) → refused y ≡ methods_from (suc n) s methods i m
   unfolding MethodRead
   refused_told e = subst (MethodRead s methods i m) e q

@@ -4,12 +4,12 @@
 --     codes_reason   the walk has no others
 --     never          so it is refused by no other number, as 4, 12 or 15
 -- Assumes nothing.
+use Rattle.std.specs.Prelude.{Option, None, Some, Result, Ok, Err}
 use Prim.Native.Nat.{ℕ, zero, suc, ◌+◌}
 use mathlib.Core.Path.{◌≡◌, refl, ap, ◌∙◌}
 use mathlib.Core.Logic.{◌≢◌}
 use mathlib.Core.Bool.{Bool, false, ◌&&◌, ◌||◌, true≢false}
 use mathlib.Core.List.{List, [], ◌∷◌}
-use mathlib.Core.Option.{Option, none, some}
 use lib.ListN.{length}
 use lib.Dec.{ltb, leb, eqb}
 use Rattle.words.proofs.Shared.{cond_elim}
@@ -22,7 +22,6 @@ use Rattle.dalvik.specs.MapList.{map_size, map_offset}
 use Rattle.dalvik.specs.ClassData.{class_def_size, class_data_off}
 use Rattle.leb128.specs.Leb.{uleb_fast, on_uleb}
 use Rattle.leb128.specs.declared.Uleb.{Uleb}
-use Rattle.leb128.specs.declared.Uleb.TheVariants as u
 use Rattle.leb128.proofs.Published.{Reason, fast_reason}
 use Rattle.leb128.proofs.Published.Reason.{outside, too_long}
 use Rattle.class_data.specs.Walk.{Walk, following, and_on, word, most_methods, code_at, code_inside, with_method, methods_from, class_data_at}
@@ -53,10 +52,10 @@ abbrev pub Reasoned : Walk → Type 0
 Reasoned (refused r) = WalkReason r
 Reasoned (found cs e) = Unit {0}
 
-by_number : (r : Uleb) (f : ℕ → ℕ → Walk) → ((y : Refusal) → u.Refused y ≡ r → Reason y) → ((v n : ℕ) → Reasoned (f v n))
+by_number : (r : Result Uleb Refusal) (f : ℕ → ℕ → Walk) → ((y : Refusal) → Err y ≡ r → Reason y) → ((v n : ℕ) → Reasoned (f v n))
     → Reasoned (on_uleb r (λ y. refused y) f)
-by_number (u.Number v n) f a g = g v n
-by_number (u.Refused y) f a g = number (a y refl)
+by_number (Ok n) f a g = g n.value n.len
+by_number (Err y) f a g = number (a y refl)
 
 reads : (s : List ℕ) (i : ℕ) (f : ℕ → ℕ → Walk) → ((v n : ℕ) → Reasoned (f v n)) → Reasoned (on_uleb (uleb_fast s i) (λ y. refused y) f)
 reads s i f g = by_number (uleb_fast s i) f (fast_reason s i) g
@@ -108,8 +107,8 @@ module _ (s : List ℕ) (m : ℕ) where
       (λ _. class_definition)
 
 entry_reason : (s : List ℕ) (h : DexHeader) (r : Option ℕ) → Reasoned (by_entry s h r)
-entry_reason s h none = defined_reason s h.methods.size h.classes.size h.classes.off
-entry_reason s h (some e) = successive_reason s h.methods.size (map_size s e) (map_offset s e)
+entry_reason s h None = defined_reason s h.methods.size h.classes.size h.classes.off
+entry_reason s h (Some e) = successive_reason s h.methods.size (map_size s e) (map_offset s e)
 
 pub codes_reason : (s : List ℕ) (h : DexHeader) → Reasoned (codes_of s h)
 unfolding codes_of

@@ -1,5 +1,6 @@
 -- What the codes of a class data item keep to: the tests that a method passes hold of its code, and each method takes bytes of the file.
 -- Assumes nothing.
+use Rattle.std.specs.Prelude.{Result, Ok, Err}
 use Prim.Native.Nat.{ℕ, zero, suc, ◌+◌, ◌*◌, ◌<◌, ◌≤◌}
 use native.Mathlib.Omega.{arith}
 use mathlib.Core.Path.{◌≡◌, refl, sym, subst}
@@ -10,24 +11,16 @@ use lib.Dec.{ltb, eqb}
 use borrow.Author.Tests.{ltb-true}
 use Rattle.words.proofs.Shared.{cond_elim, and_left, and_right}
 use Rattle.dalvik.specs.CodeItem.{Code}
-use Rattle.leb128.specs.Leb.{uleb_fast, uleb_len, on_uleb, on_len}
+use Rattle.leb128.specs.Leb.{uleb_fast, uleb_len, uleb_of, on_uleb}
 use Rattle.leb128.specs.declared.Uleb.{Uleb}
-use Rattle.leb128.specs.declared.Uleb.TheVariants as u
-use Rattle.leb128.specs.declared.Len.{Len}
-use Rattle.leb128.specs.declared.Len.TheVariants as l
 use Rattle.leb128.proofs.Published.{Reason, fast_in, fast_reason, len_in, len_reason}
-use Rattle.class_data.specs.Walk.{Walk, following, and_on, word, skipped, two_at, on_two, sizes_at, on_sizes, on_skipped, methods_at, on_methods}
+use Rattle.class_data.specs.Walk.{Walk, following, and_on, word, ◌>>=◌, skipped, two_at, sizes_at, methods_at, on_methods}
 use Rattle.class_data.specs.Walk.{most_methods, code_at, code_inside, with_method, methods_from, class_data_at}
 use Rattle.class_data.specs.Walk.Walk.{refused, found}
 use Rattle.refusal.specs.declared.Refusal.{Refusal}
-use Rattle.class_data.specs.declared.item.Skipped.{Skipped}
-use Rattle.class_data.specs.declared.item.Skipped.TheVariants as k
 use Rattle.class_data.specs.declared.item.Two.{Two}
-use Rattle.class_data.specs.declared.item.Two.TheVariants as n
 use Rattle.class_data.specs.declared.item.Sizes.{Sizes}
-use Rattle.class_data.specs.declared.item.Sizes.TheVariants as z
 use Rattle.class_data.specs.declared.item.Methods.{Methods}
-use Rattle.class_data.specs.declared.item.Methods.TheVariants as ms
 use Rattle.class_data.proofs.Laws.{code_facts}
 
 -- what holds of a code found
@@ -46,68 +39,70 @@ each_append P [] ys a b = b
 each_append P (c ∷ xs) ys a b = (a.0, each_append P xs ys a.1 b)
 
 -- ---- going by cases through the definitions
-on_uleb_p : {A : Type 0} (P : A → Type 0) (r : Uleb) (a : Refusal → A) (g : ℕ → ℕ → A) → ((y : Refusal) → u.Refused y ≡ r → P (a y))
-    → ((v n : ℕ) → u.Number v n ≡ r → P (g v n)) → P (on_uleb r a g)
-on_uleb_p P (u.Number v n) a g x f = f v n refl
-on_uleb_p P (u.Refused y) a g x f = x y refl
+on_uleb_p : {A : Type 0} (P : A → Type 0) (r : Result Uleb Refusal) (a : Refusal → A) (g : ℕ → ℕ → A) → ((y : Refusal) → Err y ≡ r → P (a y))
+    → ((v n : ℕ) → Ok (uleb_of v n) ≡ r → P (g v n)) → P (on_uleb r a g)
+on_uleb_p P (Ok n) a g x f = f n.value n.len refl
+on_uleb_p P (Err y) a g x f = x y refl
 
-on_len_p : {A : Type 0} (P : A → Type 0) (r : Len) (a : Refusal → A) (g : ℕ → A) → ((y : Refusal) → l.Refused y ≡ r → P (a y))
-    → ((n : ℕ) → l.Bytes n ≡ r → P (g n)) → P (on_len r a g)
-on_len_p P (l.Bytes n) a g x f = f n refl
-on_len_p P (l.Refused y) a g x f = x y refl
+then_p : {A B : Type 0} (P : Result B Refusal → Type 0) (r : Result A Refusal) (g : A → Result B Refusal)
+    → ((y : Refusal) → Err y ≡ r → P (Err y)) → ((x : A) → Ok x ≡ r → P (g x)) → P (r >>= g)
+then_p P (Ok x) g a f = f x refl
+then_p P (Err y) g a f = a y refl
 
 -- ---- n numbers skipped end inside; here and below, a refusal is a reader's
-abbrev InsideR : List ℕ → Skipped → Type 0
-InsideR s (k.To e) = e ≤ length s
-InsideR s (k.Refused r) = Reason r
+abbrev pub InsideR : List ℕ → Result ℕ Refusal → Type 0
+InsideR s (Ok e) = e ≤ length s
+InsideR s (Err r) = Reason r
 
 skipped_keeps : (n : ℕ) (s : List ℕ) (i : ℕ) → i ≤ length s → InsideR s (skipped n s i)
 unfolding skipped
 skipped_keeps zero s i q = q
-skipped_keeps (suc n) s i q = on_len_p (InsideR s) (uleb_len s i) _ _ (len_reason s i) (λ m e. skipped_keeps n s (i + m) (len_in s i m e).inside)
+skipped_keeps (suc n) s i q = then_p (InsideR s) (uleb_len s i) _ (len_reason s i) (λ m e. skipped_keeps n s (i + m) (len_in s i m e).inside)
 
 -- ---- an item's first method stands inside
-abbrev TwoR : List ℕ → Two → Type 0
-TwoR s (n.At a b p) = p ≤ length s
-TwoR s (n.Refused r) = Reason r
+abbrev TwoR : List ℕ → Result Two Refusal → Type 0
+TwoR s (Ok x) = x.pos ≤ length s
+TwoR s (Err r) = Reason r
 
-abbrev SizesR : List ℕ → Sizes → Type 0
-SizesR s (z.At k d v p) = p ≤ length s
-SizesR s (z.Refused r) = Reason r
+abbrev SizesR : List ℕ → Result Sizes Refusal → Type 0
+SizesR s (Ok x) = x.pos ≤ length s
+SizesR s (Err r) = Reason r
 
-abbrev MethodsR : List ℕ → Methods → Type 0
-MethodsR s (ms.At d v p) = p ≤ length s
-MethodsR s (ms.Refused r) = Reason r
+abbrev MethodsR : List ℕ → Result Methods Refusal → Type 0
+MethodsR s (Ok x) = x.pos ≤ length s
+MethodsR s (Err r) = Reason r
 
 two_keeps : (s : List ℕ) (i : ℕ) → TwoR s (two_at s i)
 unfolding two_at
 two_keeps s i =
-    on_uleb_p (TwoR s) (uleb_fast s i) _ _ (fast_reason s i) (λ a j e₁.
-    on_uleb_p (TwoR s) (uleb_fast s (i + j)) _ _ (fast_reason s (i + j)) (λ b l e₂. (fast_in _ _ _ _ e₂).inside))
+    then_p (TwoR s) (uleb_fast s i) _ (fast_reason s i) (λ a _.
+    then_p (TwoR s) (uleb_fast s (i + a.len)) _ (fast_reason s (i + a.len)) (λ b e. (fast_in _ _ b.value b.len e).inside))
 
-on_two_p : (s : List ℕ) (r : Two) (f : ℕ → ℕ → ℕ → Sizes) → TwoR s r → ((a b p : ℕ) → p ≤ length s → SizesR s (f a b p)) → SizesR s (on_two r f)
-on_two_p s (n.At a b p) f x y = y a b p x
-on_two_p s (n.Refused r) f x y = x
+two_told : (s : List ℕ) (i : ℕ) (r : Result Two Refusal) → r ≡ two_at s i → TwoR s r
+two_told s i r e = subst (TwoR s) (sym e) (two_keeps s i)
 
 sizes_keeps : (s : List ℕ) (i : ℕ) → SizesR s (sizes_at s i)
 unfolding sizes_at
-sizes_keeps s i = on_two_p s (two_at s i) _ (two_keeps s i) (λ a b p _. on_two_p s (two_at s p) _ (two_keeps s p) (λ d v q x. x))
+sizes_keeps s i =
+    then_p (SizesR s) (two_at s i) _ (λ y e. two_told s i (Err y) e) (λ x _.
+    then_p (SizesR s) (two_at s x.pos) _ (λ y e. two_told s x.pos (Err y) e) (λ m e. two_told s x.pos (Ok m) e))
 
-on_sizes_p : (s : List ℕ) (r : Sizes) (f : ℕ → ℕ → ℕ → ℕ → Methods) → SizesR s r
-    → ((k d v p : ℕ) → p ≤ length s → MethodsR s (f k d v p)) → MethodsR s (on_sizes r f)
-on_sizes_p s (z.At k d v p) f x y = y k d v p x
-on_sizes_p s (z.Refused r) f x y = x
+sizes_told : (s : List ℕ) (i : ℕ) (r : Result Sizes Refusal) → r ≡ sizes_at s i → SizesR s r
+sizes_told s i r e = subst (SizesR s) (sym e) (sizes_keeps s i)
 
-on_skipped_p : (s : List ℕ) (r : Skipped) (f : ℕ → Methods) → InsideR s r → ((e : ℕ) → e ≤ length s → MethodsR s (f e)) → MethodsR s (on_skipped r f)
-on_skipped_p s (k.To e) f x y = y e x
-on_skipped_p s (k.Refused r) f x y = x
+skipped_told : (n : ℕ) (s : List ℕ) (i : ℕ) (r : Result ℕ Refusal) → i ≤ length s → r ≡ skipped n s i → InsideR s r
+skipped_told n s i r q e = subst (InsideR s) (sym e) (skipped_keeps n s i q)
 
 methods_keeps : (s : List ℕ) (i : ℕ) → MethodsR s (methods_at s i)
 unfolding methods_at
-methods_keeps s i = on_sizes_p s (sizes_at s i) _ (sizes_keeps s i) (λ k d v p x. on_skipped_p s (skipped k s p) _ (skipped_keeps k s p x) (λ e y. y))
+methods_keeps s i =
+    then_p (MethodsR s) (sizes_at s i) _ (λ y e. sizes_told s i (Err y) e) (λ x e.
+    let q = sizes_told s i (Ok x) e in
+    then_p (MethodsR s) (skipped x.fields s x.pos) _ (λ y f. skipped_told x.fields s x.pos (Err y) q f)
+    (λ p f. skipped_told x.fields s x.pos (Ok p) q f))
 
-pub first_inside : (s : List ℕ) (i d v p : ℕ) → ms.At d v p ≡ methods_at s i → p ≤ length s
-first_inside s i d v p e = subst (MethodsR s) (sym e) (methods_keeps s i)
+pub first_inside : (s : List ℕ) (i : ℕ) (x : Methods) → Ok x ≡ methods_at s i → x.pos ≤ length s
+first_inside s i x e = subst (MethodsR s) (sym e) (methods_keeps s i)
 
 -- what holds of a reader's refusal and of every walk from a first method holds of the item
 pub class_any : (s : List ℕ) (methods i : ℕ) (P : Walk → Type 0) → ((r : Refusal) → Reason r → P (refused r))
@@ -116,9 +111,9 @@ pub class_any : (s : List ℕ) (methods i : ℕ) (P : Walk → Type 0) → ((r :
 unfolding class_data_at
 class_any s methods i P x g = by_item (methods_at s i) (methods_keeps s i)
   where
-    by_item : (r : Methods) → MethodsR s r → P (on_methods r (λ a v p. and_on (methods_from a s methods p 0) (λ f. methods_from v s methods f 0)))
-    by_item (ms.At a v p) h = g a v p
-    by_item (ms.Refused y) h = x y h
+    by_item : (r : Result Methods Refusal) → MethodsR s r → P (on_methods r (λ a v p. and_on (methods_from a s methods p 0) (λ f. methods_from v s methods f 0)))
+    by_item (Ok d) h = g d.direct d.virt d.pos
+    by_item (Err y) h = x y h
 
 -- ---- a walk from i over bytes of the file finds at most a code for each byte
 pub record Within (s : List ℕ) (m i : ℕ) (cs : List Code) (e : ℕ) : Type 0 where
@@ -173,10 +168,10 @@ module _ (s : List ℕ) (m : ℕ) where
       within_method i (i + a + b + c) (j + d) o _ (omega arith) (methods_within n (i + a + b + c) (j + d) z.inside))))
       (λ _. tt))
 
-  item_within : (r : Methods) (f : ℕ → ℕ → ℕ → Walk) → MethodsR s r → ((d v e : ℕ) → e ≤ length s → WithinR s m e (f d v e))
+  item_within : (r : Result Methods Refusal) (f : ℕ → ℕ → ℕ → Walk) → MethodsR s r → ((d v e : ℕ) → e ≤ length s → WithinR s m e (f d v e))
       → WithinR s m 0 (on_methods r f)
-  item_within (ms.Refused r) f a b = tt
-  item_within (ms.At d v e) f a b = within_from 0 e (f d v e) (omega arith) (b d v e a)
+  item_within (Err r) f a b = tt
+  item_within (Ok x) f a b = within_from 0 x.pos (f x.direct x.virt x.pos) (omega arith) (b x.direct x.virt x.pos a)
 
   pub class_within : (i : ℕ) → WithinR s m 0 (class_data_at s m i)
   unfolding class_data_at

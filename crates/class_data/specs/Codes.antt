@@ -1,8 +1,7 @@
 -- The walk over all class data of a file (SPEC, Class data): which class data items are walked, by the map or
 -- by the class definitions. The walk over one of them is in Walk.
 -- Assumes nothing.
-use Rattle.std.specs.Prelude.{ℕ, zero, suc, ◌+◌, List, [], cond, ◌||◌, length, ltb, leb, eqb}
-use Rattle.std.proofs.Math.Option.{Option, none, some}
+use Rattle.std.specs.Prelude.{ℕ, zero, suc, ◌+◌, List, [], cond, ◌||◌, length, ltb, leb, eqb, Option, None, Some}
 use Rattle.dalvik.specs.Numbers.{le32}
 use Rattle.dalvik.specs.MapList.{map_item_size, class_data_type, map_type, map_size, map_offset}
 use Rattle.dalvik.specs.ClassData.{class_def_size, class_data_off}
@@ -28,18 +27,18 @@ defined (suc n) s methods i =
 
 -- the first of n map items that is of class data; the search ends at an item that is not inside
 unfoldable pub entry_from : ℕ → List ℕ → ℕ → Option ℕ
-entry_from zero s i = none
+entry_from zero s i = None
 entry_from (suc n) s i =
-    cond (leb (i + map_item_size) (length s)) (cond (eqb (map_type s i) class_data_type) (some i) (entry_from n s (i + map_item_size))) none
+    cond (leb (i + map_item_size) (length s)) (cond (eqb (map_type s i) class_data_type) (Some i) (entry_from n s (i + map_item_size))) None
 
 -- the map's entry of class data, where the map is there and has one
 unfoldable pub map_entry : List ℕ → ℕ → Option ℕ
-map_entry s mapoff = cond (eqb mapoff 0 || ltb (length s) (mapoff + 4)) none (entry_from (le32 s mapoff) s (mapoff + 4))
+map_entry s mapoff = cond (eqb mapoff 0 || ltb (length s) (mapoff + 4)) None (entry_from (le32 s mapoff) s (mapoff + 4))
 
 -- with an entry by the map alone, else by the class definitions
 abbrev pub by_entry : List ℕ → DexHeader → Option ℕ → Walk
-by_entry s h none = defined h.classes.size s h.methods.size h.classes.off
-by_entry s h (some e) = successive (map_size s e) s h.methods.size (map_offset s e)
+by_entry s h None = defined h.classes.size s h.methods.size h.classes.off
+by_entry s h (Some e) = successive (map_size s e) s h.methods.size (map_offset s e)
 
 unfoldable pub codes_of : List ℕ → DexHeader → Walk
 codes_of s h = by_entry s h (map_entry s h.mapoff)

@@ -1,13 +1,12 @@
 -- The outcome of `codes`: the walk over the class data where the file is not too large and the lent words hold what is found, and
 -- what stands in the lent words then. The lengths of the lent outputs are arguments.
 -- Assumes nothing.
-use Rattle.std.specs.Prelude.{ℕ, ◌*◌, ◌≡◌, List, [], cond, length, leb}
+use Rattle.refusal.specs.declared.Refusal.{Refusal}
+use Rattle.std.specs.Prelude.{ℕ, ◌*◌, ◌≡◌, List, [], cond, length, leb, Result, Ok, Err}
 use Rattle.words.specs.Padded.{padded}
 use Rattle.start_words.specs.Starts.{pairs_in}
 use Rattle.refusal.specs.Refusals.{is_too_large}
 use Rattle.refusal.specs.declared.Refusal.TheVariants.{FileTooLarge, LentTooShort}
-use Rattle.refusal.specs.declared.Answer.{Answer}
-use Rattle.refusal.specs.declared.Answer.TheVariants.{Done, Refused}
 use Rattle.tinydex.specs.declared.DexHeader.{DexHeader}
 use Rattle.class_data.specs.Walk.{Walk}
 use Rattle.class_data.specs.Walk.Walk.{refused, found}
@@ -30,9 +29,9 @@ abbrev pub codes_for : List ℕ → DexHeader → CodeWords → Walk
 codes_for s h w = codes_in s h (length w.triples) (length w.starts)
 
 -- the answer counts the codes
-abbrev pub answer_of : Walk → Answer
-answer_of (refused r) = Refused r
-answer_of (found cs e) = Done (length cs)
+abbrev pub answer_of : Walk → Result ℕ Refusal
+answer_of (refused r) = Err r
+answer_of (found cs e) = Ok (length cs)
 
 abbrev pub triples_in : Walk → List ℕ
 triples_in (refused r) = []
@@ -43,7 +42,7 @@ starts_in m (refused r) = []
 starts_in m (found cs e) = starts_of m cs
 
 -- the answer and both lent slices are those of the walk w; m counts the method ids
-pub record GivesCodes (m : ℕ) (w : Walk) (r : Answer) (before after : CodeWords) : Type 0 where
+pub record GivesCodes (m : ℕ) (w : Walk) (r : Result ℕ Refusal) (before after : CodeWords) : Type 0 where
   pub answer : r ≡ answer_of w
   pub triples : after.triples ≡ padded (length before.triples) (triples_in w)
   pub starts : after.starts ≡ padded (length before.starts) (starts_in m w)

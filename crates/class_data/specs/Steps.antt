@@ -2,48 +2,36 @@
 -- each contract speaks of the definitions in Walk, Codes and Stored. In the order of the work: what is read of a method, what is stored, one
 -- method, an item, and all items.
 -- Assumes nothing.
-use Rattle.std.specs.Prelude.{ℕ, suc, ◌+◌, ◌*◌, ◌^◌, ◌<◌, ◌≤◌, ◌≡◌, cond, List, [], ◌∷◌, length}
-use Rattle.std.proofs.Math.Option.{Option, none, some}
+use Rattle.std.specs.Prelude.{ℕ, suc, ◌+◌, ◌*◌, ◌^◌, ◌<◌, ◌≤◌, ◌≡◌, cond, List, [], ◌∷◌, length, Option, Some, None, Result, Ok, Err, MatchOption}
 use Rattle.std.proofs.lemmas.List.Edits.{sets}
 use Rattle.dalvik.specs.CodeItem.{Code, header_size, insns_size}
 use Rattle.refusal.specs.Refusals.{largest_file}
 use Rattle.refusal.specs.declared.Refusal.{Refusal}
-use Rattle.refusal.specs.declared.Answer.{Answer}
-use Rattle.refusal.specs.declared.Answer.TheVariants as a
 use Rattle.class_data.specs.Walk.{Walk, following, code_inside, with_method, methods_from}
 use Rattle.class_data.specs.Walk.Walk.{refused, found}
 use Rattle.class_data.specs.Codes.{defined}
 use Rattle.class_data.specs.Stored.{CodeWords, code_words, triples_of, starts_from}
 use Rattle.class_data.specs.Found.{GivesCodes}
-use Rattle.class_data.specs.declared.item.Offset.{Offset}
-use Rattle.class_data.specs.declared.item.Offset.TheVariants as o
 use Rattle.class_data.specs.declared.item.Head.{Head}
-use Rattle.class_data.specs.declared.item.Head.TheVariants as h
-use Rattle.class_data.specs.declared.item.Item.{Item}
-use Rattle.class_data.specs.declared.item.Item.TheVariants as t
 use Rattle.class_data.specs.declared.item.Method.{Method}
-use Rattle.class_data.specs.declared.item.Method.TheVariants as d
 use Rattle.class_data.specs.declared.parse.At.{At}
-use Rattle.class_data.specs.declared.parse.Step.{Step}
-use Rattle.class_data.specs.declared.parse.Step.TheVariants as p
 use Rattle.class_data.specs.declared.parse.Walked.{Walked}
-use Rattle.class_data.specs.declared.parse.Walked.TheVariants as w
 
 -- ---- what is read of a method
--- a method whose numbers were read: index j, code offset c; m is the index before it, and p the offset after
-pub record HeadAt (s : List ℕ) (i m p j c : ℕ) : Type 0 where
-  pub rest : (methods n : ℕ) → with_method s methods j c (methods_from n s methods p j) ≡ methods_from (suc n) s methods i m
-  pub on : i < p
-  pub inside : p ≤ length s
+-- a method whose numbers were read; m is the index before it
+pub record HeadAt (s : List ℕ) (i m : ℕ) (x : Head) : Type 0 where
+  pub rest : (methods n : ℕ) → with_method s methods x.idx x.code (methods_from n s methods x.pos x.idx) ≡ methods_from (suc n) s methods i m
+  pub on : i < x.pos
+  pub inside : x.pos ≤ length s
 
 -- that, or why the numbers are refused: the walk is refused so, whatever else is to be walked
-unfoldable pub HeadRead : List ℕ → ℕ → ℕ → Head → Type 0
-HeadRead s i m (h.At p j c) = HeadAt s i m p j c
-HeadRead s i m (h.Refused r) = (methods n : ℕ) → refused r ≡ methods_from (suc n) s methods i m
+unfoldable pub HeadRead : List ℕ → ℕ → ℕ → Result Head Refusal → Type 0
+HeadRead s i m (Ok x) = HeadAt s i m x
+HeadRead s i m (Err r) = (methods n : ℕ) → refused r ≡ methods_from (suc n) s methods i m
 
 -- the units of the code item at c
-unfoldable pub item_at : List ℕ → ℕ → Item
-item_at s c = cond (code_inside s c) (t.Units (insns_size s c)) t.Outside
+unfoldable pub item_at : List ℕ → ℕ → Option ℕ
+item_at s c = cond (code_inside s c) (Some (insns_size s c)) None
 
 -- a method without code
 pub record BareAt (s : List ℕ) (methods i m p j : ℕ) : Type 0 where
@@ -59,11 +47,16 @@ pub record CodedAt (s : List ℕ) (methods i m p : ℕ) (code : Code) : Type 0 w
   pub some : 0 < code.units
   pub fits : code.off + header_size + 2 * code.units ≤ length s
 
--- a method read: one of these, or why it is refused
-unfoldable pub MethodRead : List ℕ → ℕ → ℕ → ℕ → Method → Type 0
-MethodRead s methods i m (d.Bare p j) = BareAt s methods i m p j
-MethodRead s methods i m (d.Coded p j c u) = CodedAt s methods i m p (record { method = j; off = c; units = u })
-MethodRead s methods i m (d.Refused r) = (n : ℕ) → refused r ≡ methods_from (suc n) s methods i m
+-- a method at i, read: one of these
+abbrev pub MethodAt : List ℕ → ℕ → ℕ → ℕ → Method → Type 0
+MethodAt s methods i m x =
+    MatchOption x.code (BareAt s methods i m x.pos x.idx)
+    (λ c. CodedAt s methods i m x.pos (record { method = x.idx; off = c.off; units = c.units }))
+
+-- that, or why it is refused
+unfoldable pub MethodRead : List ℕ → ℕ → ℕ → ℕ → Result Method Refusal → Type 0
+MethodRead s methods i m (Ok x) = MethodAt s methods i m x
+MethodRead s methods i m (Err r) = (n : ℕ) → refused r ≡ methods_from (suc n) s methods i m
 
 -- ---- what is stored so far: how many codes, and the lent words
 pub record Kept : Type 0 where
@@ -88,9 +81,9 @@ stored x (refused r) = refusal r
 stored x (found cs e) = left e (more x cs)
 
 -- an answer and the lent words, beside what is to be stored
-unfoldable pub seen : Walked → CodeWords → Left
-seen (w.Refused r) words = refusal r
-seen (w.Found e k) words = left e (kept k words)
+unfoldable pub seen : Result Walked Refusal → CodeWords → Left
+seen (Err r) words = refusal r
+seen (Ok x) words = left x.next (kept x.count words)
 
 -- ---- one code, number k. The limits on k, here and below, keep sums in 64 bits: an item has fewer codes than the file has bytes
 pub record StorePre (k c units : ℕ) : Type 0 where
@@ -115,9 +108,9 @@ pub record Stepped (s : List ℕ) (methods : ℕ) (a b : At) (before after : Cod
   pub inside : b.pos ≤ length s
   pub one : b.count ≤ a.count + 1
 
-unfoldable pub Onward : List ℕ → ℕ → At → Step → CodeWords → CodeWords → Type 0
-Onward s methods a (p.On b) before after = Stepped s methods a b before after
-Onward s methods a (p.Refused r) before after = (n : ℕ) → refused r ≡ methods_from (suc n) s methods a.pos a.idx
+unfoldable pub Onward : List ℕ → ℕ → At → Result At Refusal → CodeWords → CodeWords → Type 0
+Onward s methods a (Ok b) before after = Stepped s methods a b before after
+Onward s methods a (Err r) before after = (n : ℕ) → refused r ≡ methods_from (suc n) s methods a.pos a.idx
 
 pub record MethodsPre (s : List ℕ) (i k : ℕ) : Type 0 where
   pub small : length s ≤ largest_file
@@ -129,12 +122,7 @@ pub record ItemPre (s : List ℕ) (k : ℕ) : Type 0 where
   pub small : length s ≤ largest_file
   pub few : k + largest_file < 2 ^ 62
 
--- ---- an entry of the map: where the answer says that it is
-unfoldable pub place : Offset → Option ℕ
-place (o.At i) = some i
-place o.Nowhere = none
-
--- it lies inside
+-- ---- an entry of the map: it lies inside
 pub record EntryPre (s : List ℕ) (e : ℕ) : Type 0 where
   pub small : length s ≤ largest_file
   pub inside : e + 12 ≤ length s
@@ -149,11 +137,11 @@ pub record DefinedOn (s : List ℕ) (methods i : ℕ) (x y : Kept) : Type 0 wher
   pub rest : (n : ℕ) → stored y (defined n s methods (i + 32)) ≡ stored x (defined (suc n) s methods i)
   pub few : y.count ≤ x.count + length s
 
-unfoldable pub OneDefined : List ℕ → ℕ → ℕ → Kept → Walked → CodeWords → Type 0
-OneDefined s methods i x (w.Found e k) after = DefinedOn s methods i x (kept k after)
-OneDefined s methods i x (w.Refused r) after = (n : ℕ) → refused r ≡ defined (suc n) s methods i
+unfoldable pub OneDefined : List ℕ → ℕ → ℕ → Kept → Result Walked Refusal → CodeWords → Type 0
+OneDefined s methods i x (Ok y) after = DefinedOn s methods i x (kept y.count after)
+OneDefined s methods i x (Err r) after = (n : ℕ) → refused r ≡ defined (suc n) s methods i
 
 -- ---- the walk into cleared words: the outcome of `codes`, but for the words of a refusal
-unfoldable pub FitCodes : ℕ → Walk → Answer → CodeWords → CodeWords → Type 0
-FitCodes m w (a.Done n) before after = GivesCodes m w (a.Done n) before after
-FitCodes m w (a.Refused r) before after = refused r ≡ w
+unfoldable pub FitCodes : ℕ → Walk → Result ℕ Refusal → CodeWords → CodeWords → Type 0
+FitCodes m w (Ok n) before after = GivesCodes m w (Ok n) before after
+FitCodes m w (Err r) before after = refused r ≡ w

@@ -1,19 +1,14 @@
 -- The walk over one class data item (SPEC, Class data): the codes found, or the refusal, in the order in which
 -- the walk reads. What is published is in dalvik's ClassData; that the walk finds it is proved with demand 3.
 -- Assumes nothing.
-use Rattle.std.specs.Prelude.{ℕ, zero, suc, ◌+◌, ◌*◌, ◌%◌, ◌^◌, List, [], ◌∷◌, ◌++◌, Bool, cond, ◌&&◌, length, ltb, leb, eqb}
+use Rattle.std.specs.Prelude.{ℕ, zero, suc, ◌+◌, ◌*◌, ◌%◌, ◌^◌, List, [], ◌∷◌, ◌++◌, Bool, cond, ◌&&◌, length, ltb, leb, eqb, Result, Ok, Err}
 use Rattle.dalvik.specs.CodeItem.{Code, header_size, insns_size}
-use Rattle.leb128.specs.Leb.{uleb_fast, uleb_len, on_uleb, on_len}
+use Rattle.leb128.specs.Leb.{uleb_fast, uleb_len, on_uleb}
 use Rattle.refusal.specs.declared.Refusal.{Refusal}
 use Rattle.refusal.specs.declared.Refusal.TheVariants.{MethodIndex, CodeOutside}
-use Rattle.class_data.specs.declared.item.Skipped.{Skipped}
-use Rattle.class_data.specs.declared.item.Skipped.TheVariants as k
 use Rattle.class_data.specs.declared.item.Two.{Two}
-use Rattle.class_data.specs.declared.item.Two.TheVariants as n
 use Rattle.class_data.specs.declared.item.Sizes.{Sizes}
-use Rattle.class_data.specs.declared.item.Sizes.TheVariants as z
 use Rattle.class_data.specs.declared.item.Methods.{Methods}
-use Rattle.class_data.specs.declared.item.Methods.TheVariants as m
 
 -- a refusal, or the codes in the order found and the offset after them
 pub data Walk : Type 0 where
@@ -30,21 +25,22 @@ abbrev pub and_on : Walk → (ℕ → Walk) → Walk
 and_on (refused r) f = refused r
 and_on (found cs e) f = following cs (f e)
 
--- the number at i: f gets its value and the offset after it, and a why the reader refuses
-abbrev pub on_number {ℓ} : {A : Type ℓ} → List ℕ → ℕ → (Refusal → A) → (ℕ → ℕ → A) → A
-on_number s i a f = on_uleb (uleb_fast s i) a (λ v n. f v (i + n))
-
+-- the number at i: f gets its value and the offset after it
 abbrev pub with_number : List ℕ → ℕ → (ℕ → ℕ → Walk) → Walk
-with_number s i f = on_number s i (λ r. refused r) f
+with_number s i f = on_uleb (uleb_fast s i) (λ r. refused r) (λ v n. f v (i + n))
 
--- the numbers end before e
-abbrev pub skipped_to : ℕ → Skipped
-skipped_to e = k.To e
+-- what is read after r, if r is no refusal
+infixl 10 ◌>>=◌
+abbrev pub ◌>>=◌ : {A B : Type 0} → Result A Refusal → (A → Result B Refusal) → Result B Refusal
+Ok x >>= f = f x
+Err r >>= f = Err r
 
 -- the offset after n numbers
-unfoldable pub skipped : ℕ → List ℕ → ℕ → Skipped
-skipped zero s i = skipped_to i
-skipped (suc n) s i = on_len (uleb_len s i) (λ r. k.Refused r) (λ m. skipped n s (i + m))
+unfoldable pub skipped : ℕ → List ℕ → ℕ → Result ℕ Refusal
+skipped zero s i = Ok i
+skipped (suc n) s i = do
+  m ← uleb_len s i
+  skipped n s (i + m)
 
 -- the count of field pairs keeps its low 32 bits, and index sums are below this
 abbrev pub word : ℕ
@@ -52,35 +48,31 @@ word = 2 ^ 32
 
 -- ---- what opens a class data item
 -- the number at i, the number after it, and the offset after both
-unfoldable pub two_at : List ℕ → ℕ → Two
-two_at s i = on_number s i (λ r. n.Refused r) (λ a j. on_number s j (λ r. n.Refused r) (λ b e. n.At a b e))
-
-abbrev pub on_two : Two → (ℕ → ℕ → ℕ → Sizes) → Sizes
-on_two (n.At a b e) f = f a b e
-on_two (n.Refused r) f = z.Refused r
+unfoldable pub two_at : List ℕ → ℕ → Result Two Refusal
+two_at s i = do
+  first ← uleb_fast s i
+  second ← uleb_fast s (i + first.len)
+  Ok (record { first = first.value; second = second.value; pos = i + first.len + second.len })
 
 -- the four sizes at i, and the offset after them. The fields have two numbers for each pair, and the count of pairs is the low 32 bits
 -- of the two sizes' sum
-unfoldable pub sizes_at : List ℕ → ℕ → Sizes
-sizes_at s i =
-    on_two (two_at s i) (λ statics instances j.
-    on_two (two_at s j) (λ directs virtuals k. z.At (2 * ((statics + instances) % word)) directs virtuals k))
-
-abbrev pub on_sizes : Sizes → (ℕ → ℕ → ℕ → ℕ → Methods) → Methods
-on_sizes (z.At n d v e) f = f n d v e
-on_sizes (z.Refused r) f = m.Refused r
-
-abbrev pub on_skipped : Skipped → (ℕ → Methods) → Methods
-on_skipped (k.To e) f = f e
-on_skipped (k.Refused r) f = m.Refused r
+unfoldable pub sizes_at : List ℕ → ℕ → Result Sizes Refusal
+sizes_at s i = do
+  fields ← two_at s i
+  methods ← two_at s fields.pos
+  Ok (record
+      { fields = 2 * ((fields.first + fields.second) % word); direct = methods.first; virt = methods.second; pos = methods.pos })
 
 -- how many direct and virtual methods the class data item at i has, and the offset of the first of them, after the fields
-unfoldable pub methods_at : List ℕ → ℕ → Methods
-methods_at s i = on_sizes (sizes_at s i) (λ numbers directs virtuals k. on_skipped (skipped numbers s k) (λ e. m.At directs virtuals e))
+unfoldable pub methods_at : List ℕ → ℕ → Result Methods Refusal
+methods_at s i = do
+  sizes ← sizes_at s i
+  first ← skipped sizes.fields s sizes.pos
+  Ok (record { direct = sizes.direct; virt = sizes.virt; pos = first })
 
-abbrev pub on_methods : Methods → (ℕ → ℕ → ℕ → Walk) → Walk
-on_methods (m.At d v e) f = f d v e
-on_methods (m.Refused r) f = refused r
+abbrev pub on_methods : Result Methods Refusal → (ℕ → ℕ → ℕ → Walk) → Walk
+on_methods (Ok m) f = f m.direct m.virt m.pos
+on_methods (Err r) f = refused r
 
 -- ---- its methods
 

@@ -11,40 +11,32 @@ ghost use Rattle.refusal.specs.Refusals.{largest_file};
 ghost use Rattle.class_data.specs.Codes.{successive, defined, map_entry, codes_of};
 ghost use Rattle.class_data.specs.Stored.{code_words};
 ghost use Rattle.class_data.specs.Found.{codes_for, GivesCodes};
-ghost use Rattle.class_data.specs.Steps.{kept, stored, seen, place, EntryPre, DefPre, OneDefined, FitCodes};
+ghost use Rattle.class_data.specs.Steps.{kept, stored, seen, EntryPre, DefPre, OneDefined, FitCodes};
 
-use item::Offset;
 use parse::Walked;
-use refusal::{Answer, Refusal};
-use structs::{Read16, Read32};
+use refusal::Refusal;
 use tinydex::{DexHeader, Table};
 
 // The map's first entry of class data. The search ends at an entry that is not inside the file.
-fn map_entry(buf: &[u8], mapoff: u32) -> Offset
-    ensures { place result ≡ map_entry buf.now mapoff }
+fn map_entry(buf: &[u8], mapoff: u32) -> Option<usize>
+    ensures { result ≡ map_entry buf.now mapoff }
 {
     if mapoff == 0 {
-        return Offset::Nowhere;
+        return None;
     }
-    let Read32::Value(size) = structs::read_u32(buf, mapoff as usize) else {
-        return Offset::Nowhere;
-    };
+    let size = structs::read_u32(buf, mapoff as usize)?;
     let mut at = mapoff as usize + 4;
-    let mut left = size;
-    while 0 < left {
+    for _ in 0..size {
         if buf.len() < at + 12 {
-            return Offset::Nowhere;
+            return None;
         }
-        let Read16::Value(kind) = structs::read_u16(buf, at) else {
-            return Offset::Nowhere;
-        };
+        let kind = structs::read_u16(buf, at)?;
         if kind == 0x2000 {
-            return Offset::At(at);
+            return Some(at);
         }
         at = at + 12;
-        left = left - 1;
     }
-    Offset::Nowhere
+    None
 }
 
 // The class data items that a map entry counts, one after another.
@@ -54,7 +46,7 @@ fn build_map_bymap(
     entry: usize,
     triples: &mut [u32],
     starts: &mut [u32],
-) -> Walked
+) -> Result<Walked, Refusal>
     requires { EntryPre buf.now entry }
     ensures { let before = code_words triples.old starts.old in
         let after = code_words triples.new starts.new in
@@ -63,25 +55,14 @@ fn build_map_bymap(
 {
     let size = structs::u32_at(buf, entry + 4);
     let off = structs::u32_at(buf, entry + 8);
-    let mut left = size;
-    let mut at = off as usize;
-    let mut count: usize = 0;
-    while 0 < left {
-        match parse::class_data_parse(buf, methods, at, count, triples, starts) {
-            Walked::Found { next, count: found } => {
-                at = next;
-                count = found;
-                left = left - 1;
-            }
-            Walked::Refused(r) => {
-                return Walked::Refused(r);
-            }
-        }
+    let mut at = Walked {
+        next: off as usize,
+        count: 0,
+    };
+    for _ in 0..size {
+        at = parse::class_data_parse(buf, methods, at.next, at.count, triples, starts)?;
     }
-    Walked::Found {
-        next: at,
-        count: count,
-    }
+    Ok(at)
 }
 
 // The class data of the class definition at a place, with count codes found before it. `next` says nothing here.
@@ -92,20 +73,15 @@ fn class_def(
     count: usize,
     triples: &mut [u32],
     starts: &mut [u32],
-) -> Walked
+) -> Result<Walked, Refusal>
     requires { DefPre buf.now at count }
     ensures { let before = code_words triples.old starts.old in
         let after = code_words triples.new starts.new in
         OneDefined buf.now methods at (kept count before) result after }
 {
-    let Read32::Value(off) = structs::read_u32(buf, at + 24) else {
-        return Walked::Refused(Refusal::TableOutside);
-    };
+    let off = structs::read_u32(buf, at + 24).ok_or(Refusal::TableOutside)?;
     if off == 0 {
-        return Walked::Found {
-            next: at,
-            count: count,
-        };
+        return Ok(Walked { next: at, count });
     }
     parse::class_data_parse(buf, methods, off as usize, count, triples, starts)
 }
@@ -117,38 +93,28 @@ fn build_map_bydef(
     classes: Table,
     triples: &mut [u32],
     starts: &mut [u32],
-) -> Walked
+) -> Result<Walked, Refusal>
     requires { length buf.now ≤ largest_file }
     ensures { let before = code_words triples.old starts.old in
         let after = code_words triples.new starts.new in
         seen result after ≡ stored (kept 0 before) (defined classes.size buf.now methods classes.off) }
 {
     let mut at = classes.off as usize;
-    let mut left = classes.size;
-    let mut count: usize = 0;
-    while 0 < left {
-        match class_def(buf, methods, at, count, triples, starts) {
-            Walked::Found {
-                next: _,
-                count: found,
-            } => {
-                count = found;
-                at = at + 32;
-                left = left - 1;
-            }
-            Walked::Refused(r) => {
-                return Walked::Refused(r);
-            }
-        }
+    let mut count = 0;
+    for _ in 0..classes.size {
+        count = class_def(buf, methods, at, count, triples, starts)?.count;
+        at = at + 32;
     }
-    Walked::Found {
-        next: at,
-        count: count,
-    }
+    Ok(Walked { next: at, count })
 }
 
 // By the map alone where it has an entry of class data, else by the class definitions.
-fn walk(buf: &[u8], header: DexHeader, triples: &mut [u32], starts: &mut [u32]) -> Walked
+fn walk(
+    buf: &[u8],
+    header: DexHeader,
+    triples: &mut [u32],
+    starts: &mut [u32],
+) -> Result<Walked, Refusal>
     requires { length buf.now ≤ largest_file }
     ensures { let before = code_words triples.old starts.old in
         let after = code_words triples.new starts.new in
@@ -156,50 +122,54 @@ fn walk(buf: &[u8], header: DexHeader, triples: &mut [u32], starts: &mut [u32]) 
 {
     let methods = header.methods.size;
     match map_entry(buf, header.mapoff) {
-        Offset::At(entry) => build_map_bymap(buf, methods, entry, triples, starts),
-        Offset::Nowhere => build_map_bydef(buf, methods, header.classes, triples, starts),
+        Some(entry) => build_map_bymap(buf, methods, entry, triples, starts),
+        None => build_map_bydef(buf, methods, header.classes, triples, starts),
     }
 }
 
 // The walk into cleared words, where the file is not too large and the words hold what is found. A walk whose triples do not fit goes
 // on, so that what it meets is refused first. A refusal leaves any words.
-fn walk_fitting(buf: &[u8], header: DexHeader, triples: &mut [u32], starts: &mut [u32]) -> Answer
+fn walk_fitting(
+    buf: &[u8],
+    header: DexHeader,
+    triples: &mut [u32],
+    starts: &mut [u32],
+) -> Result<usize, Refusal>
     ensures { let before = code_words triples.old starts.old in
         let after = code_words triples.new starts.new in
         FitCodes header.methods.size (codes_for buf.now header before) result before after }
 {
     if refusal::too_large(buf.len()) {
-        return Answer::Refused(Refusal::FileTooLarge);
+        return Err(Refusal::FileTooLarge);
     }
     if start_words::count(starts) < header.methods.size as usize {
-        return Answer::Refused(Refusal::LentTooShort);
+        return Err(Refusal::LentTooShort);
     }
     words::clear(triples);
     words::clear(starts);
-    match walk(buf, header, triples, starts) {
-        Walked::Refused(r) => Answer::Refused(r),
-        Walked::Found { next: _, count } => {
-            if triples.len() / 3 < count {
-                return Answer::Refused(Refusal::LentTooShort);
-            }
-            Answer::Done(count)
-        }
+    let found = walk(buf, header, triples, starts)?;
+    if triples.len() / 3 < found.count {
+        return Err(Refusal::LentTooShort);
     }
+    Ok(found.count)
 }
 
 // The codes of a file: three words for each in the order found (first bucket, last bucket, method), and each method's start words. The
 // answer counts the codes; a refusal leaves cleared words.
-pub fn codes(buf: &[u8], header: DexHeader, triples: &mut [u32], starts: &mut [u32]) -> Answer
+pub fn codes(
+    buf: &[u8],
+    header: DexHeader,
+    triples: &mut [u32],
+    starts: &mut [u32],
+) -> Result<usize, Refusal>
     ensures gives { let before = code_words triples.old starts.old in
         let after = code_words triples.new starts.new in
         GivesCodes header.methods.size (codes_for buf.now header before) result before after }
 {
-    match walk_fitting(buf, header, triples, starts) {
-        Answer::Done(count) => Answer::Done(count),
-        Answer::Refused(r) => {
-            words::clear(triples);
-            words::clear(starts);
-            Answer::Refused(r)
-        }
+    let count = walk_fitting(buf, header, triples, starts);
+    if count.is_err() {
+        words::clear(triples);
+        words::clear(starts);
     }
+    count
 }

@@ -6,7 +6,6 @@ ghost use Rattle.class_data.specs.Stored.{code_words};
 ghost use Rattle.class_data.specs.Steps.{kept, stored, seen, StorePre, with_code, StepPre, Onward, MethodsPre, ItemPre};
 
 use super::item;
-use super::item::{Method, Methods};
 use refusal::Refusal;
 
 // Three words one after another, each where it fits.
@@ -40,50 +39,44 @@ struct At {
     pub count: usize,
 }
 
-#[derive(Clone, Copy)]
-enum Step {
-    On(At),
-    Refused(Refusal),
-}
-
 // One method.
-fn encoded_method(buf: &[u8], methods: u32, w: At, triples: &mut [u32], starts: &mut [u32]) -> Step
+fn encoded_method(
+    buf: &[u8],
+    methods: u32,
+    w: At,
+    triples: &mut [u32],
+    starts: &mut [u32],
+) -> Result<At, Refusal>
     requires { StepPre buf.now w }
     ensures { let before = code_words triples.old starts.old in
         let after = code_words triples.new starts.new in
         Onward buf.now methods w result before after }
 {
-    match item::method_code(buf, methods, w.pos, w.idx) {
-        Method::Refused(r) => Step::Refused(r),
-        Method::Bare { pos, idx } => Step::On(At {
-            pos: pos,
-            idx: idx,
+    let method = item::method_code(buf, methods, w.pos, w.idx)?;
+    let Some(code) = method.code else {
+        return Ok(At {
+            pos: method.pos,
+            idx: method.idx,
             count: w.count,
-        }),
-        Method::Coded {
-            pos,
-            idx,
-            code,
-            units,
-        } => {
-            store(triples, starts, w.count, idx, code, units);
-            Step::On(At {
-                pos: pos,
-                idx: idx,
-                count: w.count + 1,
-            })
-        }
-    }
+        });
+    };
+    store(triples, starts, w.count, method.idx, code.off, code.units);
+    Ok(At {
+        pos: method.pos,
+        idx: method.idx,
+        count: w.count + 1,
+    })
 }
 
 // The end of a walk: the offset after it, and how many codes were found.
 #[derive(Clone, Copy)]
-pub(crate) enum Walked {
-    Found { next: usize, count: usize },
-    Refused(Refusal),
+pub(crate) struct Walked {
+    pub next: usize,
+    pub count: usize,
 }
 
 // n methods one after another, with count codes found before them.
+// Kept: what it takes stands together at its two calls alone, where a struct would be made and taken apart at once.
 fn encoded_methods(
     buf: &[u8],
     methods: u32,
@@ -92,33 +85,20 @@ fn encoded_methods(
     count: usize,
     triples: &mut [u32],
     starts: &mut [u32],
-) -> Walked
+) -> Result<Walked, Refusal>
     requires { MethodsPre buf.now pos count }
     ensures { let before = code_words triples.old starts.old in
         let after = code_words triples.new starts.new in
         seen result after ≡ stored (kept count before) (methods_from n buf.now methods pos 0) }
 {
-    let mut at = At {
-        pos: pos,
-        idx: 0,
-        count: count,
-    };
-    let mut left = n;
-    while 0 < left {
-        match encoded_method(buf, methods, at, triples, starts) {
-            Step::On(next) => {
-                at = next;
-                left = left - 1;
-            }
-            Step::Refused(r) => {
-                return Walked::Refused(r);
-            }
-        }
+    let mut at = At { pos, idx: 0, count };
+    for _ in 0..n {
+        at = encoded_method(buf, methods, at, triples, starts)?;
     }
-    Walked::Found {
+    Ok(Walked {
         next: at.pos,
         count: at.count,
-    }
+    })
 }
 
 // The class data item at pos, with count codes found before it. A refusal leaves any words.
@@ -129,23 +109,29 @@ pub(crate) fn class_data_parse(
     count: usize,
     triples: &mut [u32],
     starts: &mut [u32],
-) -> Walked
+) -> Result<Walked, Refusal>
     requires { ItemPre buf.now count }
     ensures { let before = code_words triples.old starts.old in
         let after = code_words triples.new starts.new in
         seen result after ≡ stored (kept count before) (class_data_at buf.now methods pos) }
 {
-    match item::class_methods(buf, pos) {
-        Methods::Refused(r) => Walked::Refused(r),
-        Methods::At {
-            direct,
-            virt,
-            pos: p,
-        } => match encoded_methods(buf, methods, direct, p, count, triples, starts) {
-            Walked::Refused(r) => Walked::Refused(r),
-            Walked::Found { next, count: found } => {
-                encoded_methods(buf, methods, virt, next, found, triples, starts)
-            }
-        },
-    }
+    let found = item::class_methods(buf, pos)?;
+    let direct = encoded_methods(
+        buf,
+        methods,
+        found.direct,
+        found.pos,
+        count,
+        triples,
+        starts,
+    )?;
+    encoded_methods(
+        buf,
+        methods,
+        found.virt,
+        direct.next,
+        direct.count,
+        triples,
+        starts,
+    )
 }

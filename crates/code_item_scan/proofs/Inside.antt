@@ -1,10 +1,10 @@
 -- A scan of a region that lies in the file is never refused 12: its test passes, and no other way out has that number.
 -- Assumes nothing.
+use Rattle.std.specs.Prelude.{Option, None, Some}
 use Prim.Native.Nat.{ℕ, ◌≤◌}
 use native.Mathlib.Omega.{arith}
 use mathlib.Core.Logic.{◌≢◌}
 use mathlib.Core.Bool.{◌&&◌}
-use mathlib.Core.Option.{Option, none, some}
 use mathlib.Core.List.{List}
 use lib.ListN.{length}
 use lib.Dec.{leb}
@@ -17,8 +17,8 @@ use Rattle.code_item_scan.specs.Scan.{hits_of, Asked, HitRoom, Scan, no_scan, sc
 
 module _ (s : List ℕ) (A : Asked) (R : HitRoom) (rises : A.from ≤ A.to) (inside : A.to ≤ length s) where
   by_kind : (k : Option Kind) → (scanned_as s A R k).number ≢ 12
-  by_kind none = λ q. omega arith
-  by_kind (some kind) =
+  by_kind None = λ q. omega arith
+  by_kind (Some kind) =
       let n : ℕ = length (hits_of s kind A.wanted A.from A.to) in
       rw (le-leb A.from A.to rises, le-leb A.to (length s) inside)
       (cond_elim (λ (S : Scan). S.number ≢ 12) (leb n R.offs && leb n R.marks) _ (no_scan 4) (λ _ q. omega arith) (λ _ q. omega arith))

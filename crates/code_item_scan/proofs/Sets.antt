@@ -1,5 +1,5 @@
 -- The tables tell which indices are wanted, since each word of the list that was passed has left its trace in them.
---     is_in       is_in_take, is_in_last, is_in_not_last
+--     is_in       is_in_take, any_is_in
 --     TableOf     table_marked, table_passed, table_tells
 --     WantedOf    wanted_none, wanted_in, wanted_out, wanted_tells
 --     Tells       tells_listed, tells_table
@@ -8,13 +8,14 @@ use mathlib.Core.Path.{◌≡◌, refl, ap, sym, ◌∙◌}
 use mathlib.Core.Bool.{Bool, true, false, not, ◌&&◌, ◌||◌}
 use mathlib.Core.Logic.{⊎_elim}
 use mathlib.Core.List.{List, [], ◌∷◌, ◌++◌}
-use Prim.Native.Nat.{ℕ, ◌+◌, ◌-◌, ◌*◌, ◌≤◌, ◌<◌}
+use Prim.Native.Nat.{ℕ, ◌+◌, ◌*◌, ◌≤◌, ◌<◌}
 use native.Mathlib.Numerals.{add-one}
 use native.Mathlib.Omega.{arith}
 use lib.Dec.{ltb, eqb}
 use lib.ListN.{length, get_or, set, take}
 use lib.Seq.{take-suc, get_or-set_same, get_or-set_other}
 use borrow.Author.Tests.{eq-eqb, ne_eqb, eqb-true, eqb-false, ltb-true, ltb-false, lt-ltb, le-ltb, le-leb}
+use Rattle.std.specs.List.{list_any}
 use Rattle.dalvik.specs.Instructions.{Kind}
 use Rattle.dalvik.specs.Instructions.Kind.{strings}
 use Rattle.kinds.specs.Kinds.{is_strings}
@@ -40,6 +41,15 @@ is_in_append : (x : ℕ) (a b : List ℕ) → is_in x (a ++ b) ≡ is_in x a || 
 is_in_append x [] b = refl
 is_in_append x (y ∷ a) b = ap (λ (t : Bool). eqb x y || t) (is_in_append x a b) ∙ sym (or_assoc (eqb x y) (is_in x a) (is_in x b))
 
+-- x is one of the words where one of them equals it
+eqb_turned : (x y : ℕ) → eqb y x ≡ eqb x y
+eqb_turned x y =
+    ⊎_elim (λ e. eq-eqb y x (sym (eqb-true x y e)) ∙ sym e) (λ e. ne_eqb y x (λ z. eqb-false x y e (sym z)) ∙ sym e) (case (eqb x y))
+
+pub any_is_in : (x : ℕ) (l : List ℕ) → list_any (λ y. eqb y x) l ≡ is_in x l
+any_is_in x [] = refl
+any_is_in x (y ∷ ys) = rw (eqb_turned x y, any_is_in x ys)
+
 -- one word more
 pub is_in_take : (x : ℕ) (l : List ℕ) (i : ℕ) → i < length l → is_in x (take (i + 1) l) ≡ is_in x (take i l) || eqb x (get_or l i 0)
 is_in_take x l i h =
@@ -51,18 +61,6 @@ is_in_more x l i h e = is_in_take x l i h ∙ rw (eq-eqb x (get_or l i 0) (sym e
 
 pub is_in_no_more : (x : ℕ) (l : List ℕ) (i : ℕ) → i < length l → (get_or l i 0 ≡ x → ⊥) → is_in x (take (i + 1) l) ≡ is_in x (take i l)
 is_in_no_more x l i h n = is_in_take x l i h ∙ rw (ne_eqb x (get_or l i 0) (λ z. n (sym z))) (or_false (is_in x (take i l)))
-
--- the same from the longer list
-module _ (x : ℕ) (l : List ℕ) (i : ℕ) (some : 0 < i) (h : i ≤ length l) where
-  pub is_in_last : get_or l (i - 1) 0 ≡ x → is_in x (take i l) ≡ true
-  is_in_last e =
-      let k : i ≡ i - 1 + 1 = omega arith in
-      ap (λ (j : ℕ). is_in x (take j l)) k ∙ is_in_more x l (i - 1) (omega arith) e
-
-  pub is_in_not_last : (get_or l (i - 1) 0 ≡ x → ⊥) → is_in x (take i l) ≡ is_in x (take (i - 1) l)
-  is_in_not_last n =
-      let k : i ≡ i - 1 + 1 = omega arith in
-      ap (λ (j : ℕ). is_in x (take j l)) k ∙ is_in_no_more x l (i - 1) (omega arith) n
 
 -- the table of the wanted indices of two bytes
 module _ (l t : List ℕ) (i : ℕ) (h : i < length l) (e : (y : ℕ) → y < index_count → get_or t y 0 ≡ bit (is_in y (take i l))) where

@@ -6,9 +6,9 @@
 --     Passed      passed_skipped, passed_on, passed_found, passed_end
 --     Tells       tells_backward, tells_string, tells_short, tells_even
 -- Assumes nothing.
+use Rattle.std.specs.Prelude.{Option, None, Some}
 use mathlib.Core.Path.{◌≡◌, refl, ap, sym, ◌∙◌, subst}
 use mathlib.Core.Bool.{Bool, true, false, ◌&&◌, cond}
-use mathlib.Core.Option.{Option, none, some}
 use mathlib.Core.List.{List, [], ◌∷◌}
 use mathlib.Core.Logic.{inl, inr, ⊎_elim}
 use Prim.Native.Nat.{ℕ, zero, suc, ◌+◌, ◌-◌, ◌%◌, ◌≤◌, ◌<◌, min}
@@ -30,7 +30,6 @@ use Rattle.code_item_scan.specs.Scan.{Hit, index_at, is_tried, Sought, sought, i
 use Rattle.code_item_scan.specs.Next.{IndexSet, index_set_of, index_count, tabled, listed, Tells, on_from, FirstHit, Finds}
 use Rattle.code_item_scan.specs.Steps.{named_by, named, Told, EvenHit, Skipped, SkippedEven, FindsEven}
 use Rattle.code_item_scan.specs.declared.Found.{Found}
-use Rattle.code_item_scan.specs.declared.Found.TheVariants.{At, Nothing}
 use Rattle.code_item_scan.proofs.Sets.{tells_listed, tells_table}
 use Rattle.code_item_scan.proofs.Listed.{tried_even}
 
@@ -50,11 +49,11 @@ string_none op h = simp (ne_eqb op 0x1a (λ e. h (inl e)), ne_eqb op 0x1b (λ e.
 
 -- ---- one start
 
-second : (a b c : Bool) (x : Option ℕ) → b ≡ false → cond (a && b && c) x none ≡ none
+second : (a b c : Bool) (x : Option ℕ) → b ≡ false → cond (a && b && c) x None ≡ None
 second true b c x e = rw e
 second false b c x e = refl
 
-third : (a b c : Bool) (x : Option ℕ) → c ≡ false → cond (a && b && c) x none ≡ none
+third : (a b c : Bool) (x : Option ℕ) → c ≡ false → cond (a && b && c) x None ≡ None
 third true true c x e = rw e
 third true false c x e = refl
 third false b c x e = refl
@@ -63,44 +62,44 @@ module _ (s : List ℕ) (kind : Kind) (wants : ℕ → Bool) (to p : ℕ) where
   abbrev width : ℕ
   width = width_of kind (byte s p)
 
-  pub named_other : 0 ≡ width → none ≡ named s kind wants to p
+  pub named_other : 0 ≡ width → None ≡ named s kind wants to p
   unfolding named
   named_other e = ap (named_by s wants to p) e
 
-  pub named_short : (w : ℕ) → w ≡ width → to < p + 2 + w → none ≡ named s kind wants to p
+  pub named_short : (w : ℕ) → w ≡ width → to < p + 2 + w → None ≡ named s kind wants to p
   unfolding named
   named_short w e h = sym (second (ltb 0 w) (leb (p + 2 + w) to) _ _ (lt-leb (p + 2 + w) to h)) ∙ ap (named_by s wants to p) e
 
-  pub named_unwanted : (w x : ℕ) → w ≡ width → x ≡ index_at s (p + 2) w → wants x ≡ false → none ≡ named s kind wants to p
+  pub named_unwanted : (w x : ℕ) → w ≡ width → x ≡ index_at s (p + 2) w → wants x ≡ false → None ≡ named s kind wants to p
   unfolding named
   named_unwanted w x e i n =
       sym (third (ltb 0 w) (leb (p + 2 + w) to) _ _ (ap wants (sym i) ∙ n)) ∙ ap (named_by s wants to p) e
 
   pub named_wanted : (w x : ℕ) → w ≡ width → 0 < w → p + 2 + w ≤ to → x ≡ index_at s (p + 2) w → wants x ≡ true
-      → some x ≡ named s kind wants to p
+      → Some x ≡ named s kind wants to p
   unfolding named
   named_wanted w x e n h i y =
-      let f : named_by s wants to p w ≡ some x = simp (lt-ltb 0 w n, le-leb (p + 2 + w) to h, sym i, y) in
+      let f : named_by s wants to p w ≡ Some x = simp (lt-ltb 0 w n, le-leb (p + 2 + w) to h, sym i, y) in
       sym f ∙ ap (named_by s wants to p) e
 
   -- where indices have two bytes, an unwanted one tells alone
-  pub named_even : (x : ℕ) → is_strings kind ≡ false → x ≡ le16 s (p + 2) → wants x ≡ false → none ≡ named s kind wants to p
+  pub named_even : (x : ℕ) → is_strings kind ≡ false → x ≡ le16 s (p + 2) → wants x ≡ false → None ≡ named s kind wants to p
   unfolding index_at
   named_even x k i n = ⊎_elim (λ e. named_other (sym e)) (λ e. named_unwanted 2 x (sym e) i n) (width_even kind (byte s p) k)
 
-  pub named_end : to < p + 4 → none ≡ named s kind wants to p
+  pub named_end : to < p + 4 → None ≡ named s kind wants to p
   named_end h = ⊎_elim (λ e. named_other (sym e)) (λ l. named_short width refl (omega arith)) (width_any kind (byte s p))
 
 -- ---- the starts one after another
 
-tried_none : (a b c d : Bool) (x : ℕ) → none ≡ cond (b && c && d) (some x) none → a && b && c && d ≡ false
+tried_none : (a b c d : Bool) (x : ℕ) → None ≡ cond (b && c && d) (Some x) None → a && b && c && d ≡ false
 tried_none false b c d x e = refl
 tried_none true false c d x e = refl
 tried_none true true false d x e = refl
 tried_none true true true false x e = refl
 tried_none true true true true x e = let z : ◌≡◌ {A = ℕ} 0 1 = cc in absurd (omega arith)
 
-tried_some : (b c d : Bool) (x y : ℕ) → some x ≡ cond (b && c && d) (some y) none → (true && b && c && d ≡ true) × (y ≡ x)
+tried_some : (b c d : Bool) (x y : ℕ) → Some x ≡ cond (b && c && d) (Some y) None → (true && b && c && d ≡ true) × (y ≡ x)
 tried_some true true true x y e = (refl, cc)
 tried_some false c d x y e = let z : ◌≡◌ {A = ℕ} 0 1 = cc in absurd (omega arith)
 tried_some true false d x y e = let z : ◌≡◌ {A = ℕ} 0 1 = cc in absurd (omega arith)
@@ -113,11 +112,11 @@ module _ (s : List ℕ) (kind : Kind) (wants : ℕ → Bool) (from to : ℕ) whe
   abbrev left : ℕ → List Hit
   left p = hits_in (to - p) s Q p
 
-  no_hit : (p : ℕ) → none ≡ named s kind wants to p → is_hit s Q p ≡ false
+  no_hit : (p : ℕ) → None ≡ named s kind wants to p → is_hit s Q p ≡ false
   unfolding named
   no_hit p e = tried_none (is_tried kind (p - from)) _ _ _ _ e
 
-  hit_named : (p x : ℕ) → is_tried kind (p - from) ≡ true → some x ≡ named s kind wants to p
+  hit_named : (p x : ℕ) → is_tried kind (p - from) ≡ true → Some x ≡ named s kind wants to p
       → (is_hit s Q p ≡ true) × (index_at s (p + 2) (width_of kind (byte s p)) ≡ x)
   unfolding named
   hit_named p x t e =
@@ -141,10 +140,10 @@ module _ (s : List ℕ) (kind : Kind) (wants : ℕ → Bool) (from to : ℕ) whe
       let k : to - p ≡ suc (to - (p + 1)) = omega arith in
       rw (k, add-one p) (one_miss (to - suc p) p e)
 
-  next_none : (p : ℕ) → p < to → none ≡ named s kind wants to p → left p ≡ left (p + 1)
+  next_none : (p : ℕ) → p < to → None ≡ named s kind wants to p → left p ≡ left (p + 1)
   next_none p h e = miss p h (no_hit p e)
 
-  next_some : (p x : ℕ) → p < to → is_tried kind (p - from) ≡ true → some x ≡ named s kind wants to p
+  next_some : (p x : ℕ) → p < to → is_tried kind (p - from) ≡ true → Some x ≡ named s kind wants to p
       → left p ≡ record { off = p; mark = x } ∷ left (p + 1)
   next_some p x h t e =
       let k : to - p ≡ suc (to - (p + 1)) = omega arith in
@@ -187,19 +186,15 @@ tried_strings d = refl
 -- ---- what is found
 
 module _ {s : List ℕ} {Q : Sought} where
-  pub finds_hit : {off mark next : ℕ} → FirstHit s Q off mark next → Finds s Q (At off mark next)
-  finds_hit {off} {mark} {next} f =
+  pub finds_hit : (f : Found) → FirstHit s Q f.off f.mark f.next → Finds s Q (Some f)
+  finds_hit f h =
       record {
-        hit = λ o m n e.
-            let p : off ≡ o = cc in
-            let q : mark ≡ m = cc in
-            let w : next ≡ n = cc in
-            rw (← p, ← q, ← w) f;
+        hit = λ g e. let d : f ≡ g = cc in subst (λ (k : Found). FirstHit s Q k.off k.mark k.next) d h;
         none_left = λ e. absurd (let z : ◌≡◌ {A = ℕ} 0 1 = cc in omega arith);
       }
 
-  pub finds_nothing : hits_by s Q ≡ [] → Finds s Q Nothing
-  finds_nothing h = record { hit = λ o m n e. absurd (let z : ◌≡◌ {A = ℕ} 0 1 = cc in omega arith); none_left = λ e. h }
+  pub finds_nothing : hits_by s Q ≡ [] → Finds s Q None
+  finds_nothing h = record { hit = λ f e. absurd (let z : ◌≡◌ {A = ℕ} 0 1 = cc in omega arith); none_left = λ e. h }
 
 -- ---- from one start to another
 
@@ -236,11 +231,11 @@ module _ (s : List ℕ) (wants : ℕ → Bool) (to p : ℕ) (h : p < to) where
   unfolding hits_by
   string_moved = moved s strings wants p to (p + 1) (to - (p + 1)) (p + 1) (λ q k. tried_strings (q - p) ∙ sym (tried_strings (q - (p + 1))))
 
-  pub string_miss : none ≡ named s strings wants to p → Came s (sought strings wants p to) (p + 1)
+  pub string_miss : None ≡ named s strings wants to p → Came s (sought strings wants p to) (p + 1)
   unfolding hits_by
   string_miss e = record { same = next_none s strings wants p to p h e ∙ string_moved; onward = omega arith; inside = omega arith }
 
-  pub string_found : (x : ℕ) → some x ≡ named s strings wants to p → FirstHit s (sought strings wants p to) p x (p + 1)
+  pub string_found : (x : ℕ) → Some x ≡ named s strings wants to p → FirstHit s (sought strings wants p to) p x (p + 1)
   unfolding hits_by
   string_found x e =
       record {
@@ -295,11 +290,11 @@ module _ (s : List ℕ) (kind : Kind) (wants : ℕ → Bool) (to p : ℕ) (k : i
       let f : (q - p) % 2 ≡ (q - (p + 2)) % 2 = omega arith in
       tried_even kind (q - p) k ∙ ap (λ (d : ℕ). eqb d 0) f ∙ sym (tried_even kind (q - (p + 2)) k))
 
-  pub even_miss : none ≡ named s kind wants to p → Came s (sought kind wants p to) (p + 2)
+  pub even_miss : None ≡ named s kind wants to p → Came s (sought kind wants p to) (p + 2)
   unfolding hits_by
   even_miss e = record { same = next_none s kind wants p to p (omega arith) e ∙ odd_moved; onward = omega arith; inside = omega arith }
 
-  pub even_found : (x : ℕ) → some x ≡ named s kind wants to p → FirstHit s (sought kind wants p to) p x (p + 2)
+  pub even_found : (x : ℕ) → Some x ≡ named s kind wants to p → FirstHit s (sought kind wants p to) p x (p + 2)
   unfolding hits_by
   even_found x e =
       let t : is_tried kind (p - p) ≡ true = tried_even kind (p - p) k ∙ eq-eqb ((p - p) % 2) 0 (omega arith) in
@@ -337,15 +332,15 @@ module _ (s : List ℕ) (to : ℕ) (table : List ℕ) (p : ℕ) where
       }
 
 module _ (s : List ℕ) (kind : Kind) (table : List ℕ) (p : ℕ) (k : is_strings kind ≡ false) where
-  pub even_hit_unwanted : (x : ℕ) → HalfAt s (p + 2) x → get_or table x 0 ≡ 0 → EvenHit s kind table p none
+  pub even_hit_unwanted : (x : ℕ) → HalfAt s (p + 2) x → get_or table x 0 ≡ 0 → EvenHit s kind table p None
   even_hit_unwanted x i z =
       record { is = λ wants to t h. named_even s kind wants to p x k i.is (sym (t x i.small) ∙ tabled_none table x z) }
 
-  pub even_hit_other : 0 ≡ width_of kind (byte s p) → EvenHit s kind table p none
+  pub even_hit_other : 0 ≡ width_of kind (byte s p) → EvenHit s kind table p None
   even_hit_other e = record { is = λ wants to t h. named_other s kind wants to p e }
 
   pub even_hit_wanted : (x : ℕ) → index_count ≤ length table → HalfAt s (p + 2) x → (get_or table x 0 ≡ 0 → ⊥) → (width_of kind (byte s p) ≡ 0 → ⊥)
-      → EvenHit s kind table p (some x)
+      → EvenHit s kind table p (Some x)
   unfolding index_at
   even_hit_wanted x l i z n =
       record {
@@ -366,17 +361,17 @@ module _ (s : List ℕ) (kind : Kind) (table : List ℕ) (to p : ℕ) (k : is_st
   passed_skipped r g = record { onward = g.onward; inside = g.inside; same = λ wants t. g.same kind wants k t }
 
   module _ (r : ℕ) (g : Passed s kind table to p r) where
-    pub passed_end : to < r + 4 → FindsEven s kind table p to Nothing
+    pub passed_end : to < r + 4 → FindsEven s kind table p to None
     passed_end h wants t = finds_nothing (g.same wants t ∙ no_hits s kind wants r to h)
 
     module _ (h : r + 4 ≤ to) where
-      pub passed_found : (x : ℕ) → EvenHit s kind table r (some x) → FindsEven s kind table p to (At r x (r + 2))
+      pub passed_found : (x : ℕ) → EvenHit s kind table r (Some x) → FindsEven s kind table p to (Some (record { off = r; mark = x; next = r + 2 }))
       passed_found x e wants t =
           let f : FirstHit s (sought kind wants r to) r x (r + 2) = even_found s kind wants to r k h x (e.is wants to t h) in
-          finds_hit (record { hits = g.same wants t ∙ f.hits; onward = g.onward; passed = f.passed; inside = f.inside })
+          finds_hit (record { off = r; mark = x; next = r + 2 }) (record { hits = g.same wants t ∙ f.hits; onward = g.onward; passed = f.passed; inside = f.inside })
 
       -- a start that is no hit, and those skipped after it
-      pub passed_on : (q : ℕ) → EvenHit s kind table r none → SkippedEven s to table (r + 2) q → Passed s kind table to p q
+      pub passed_on : (q : ℕ) → EvenHit s kind table r None → SkippedEven s to table (r + 2) q → Passed s kind table to p q
       passed_on q e j =
           record {
             onward = omega (arith, g.onward, j.onward);
@@ -398,9 +393,9 @@ module _ (s : List ℕ) (kind : Kind) (v w : ℕ → Bool) (same : (x : ℕ) →
         inside = f.inside;
       }
 
-  pub finds_alike : {r : Found} → Finds s (sought kind v from to) r → Finds s (sought kind w from to) r
+  pub finds_alike : {r : Option Found} → Finds s (sought kind v from to) r → Finds s (sought kind w from to) r
   finds_alike f =
-      record { hit = λ o m n e. first_alike (f.hit o m n e); none_left = λ e. sym (hits_alike s kind v from to w same) ∙ f.none_left e }
+      record { hit = λ g e. first_alike (f.hit g e); none_left = λ e. sym (hits_alike s kind v from to w same) ∙ f.none_left e }
 
 module _ (s : List ℕ) (kind : Kind) (wants : ℕ → Bool) (from to : ℕ) (k : is_strings kind ≡ false) (bytes : (i : ℕ) → byte s i < 256)
     (none-wanted : (x : ℕ) → x < index_count → wants x ≡ false) where
@@ -423,10 +418,10 @@ module _ (s : List ℕ) (kind : Kind) (wants : ℕ → Bool) (from to : ℕ) (k 
   none_hit = none_told (to - from) from
 
 module _ (s : List ℕ) (W : IndexSet) (kind : Kind) (from to to' : ℕ) (cut : to ≡ to') where
-  pub tells_backward : to < from → (wants : ℕ → Bool) → Tells W kind wants → Finds s (sought kind wants from to') Nothing
+  pub tells_backward : to < from → (wants : ℕ → Bool) → Tells W kind wants → Finds s (sought kind wants from to') None
   tells_backward h wants t = finds_nothing (no_region s kind wants from to' (omega arith))
 
-  pub tells_string : {r : Found} → is_strings kind ≡ true → Finds s (sought strings (listed (index_set_of [] W.bits W.others W.words)) from to) r
+  pub tells_string : {r : Option Found} → is_strings kind ≡ true → Finds s (sought strings (listed (index_set_of [] W.bits W.others W.words)) from to) r
       → (wants : ℕ → Bool) → Tells W kind wants → Finds s (sought kind wants from to') r
   unfolding listed
   tells_string {r = r} k f wants t =
@@ -436,12 +431,12 @@ module _ (s : List ℕ) (W : IndexSet) (kind : Kind) (from to to' : ℕ) (cut : 
 
   module _ (k : is_strings kind ≡ false) where
     pub tells_short : length W.table < index_count → ((i : ℕ) → byte s i < 256) → (wants : ℕ → Bool) → Tells W kind wants
-        → Finds s (sought kind wants from to') Nothing
+        → Finds s (sought kind wants from to') None
     tells_short h bytes wants t =
         finds_nothing
         (none_hit s kind wants from to' k bytes (λ x l. sym (tells_table W kind wants t k x l) ∙ rw (lt-leb index_count (length W.table) h)))
 
-    pub tells_even : {r : Found} → FindsEven s kind W.table from to r → (wants : ℕ → Bool) → Tells W kind wants
+    pub tells_even : {r : Option Found} → FindsEven s kind W.table from to r → (wants : ℕ → Bool) → Tells W kind wants
         → Finds s (sought kind wants from to') r
     tells_even {r = r} f wants t =
         subst (λ (n : ℕ). Finds s (sought kind wants from n) r) cut (f wants (tells_table W kind wants t k))

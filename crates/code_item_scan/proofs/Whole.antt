@@ -1,10 +1,11 @@
 -- The whole scan gives its outcome: the refusals come in the order of SPEC, Scan, and hits stored into zeros are the padded list.
 -- Assumes nothing.
+use Rattle.std.specs.Prelude.{Option, Result, Ok, Err}
 use mathlib.Core.Path.{◌≡◌, refl, ap, sym, ◌∙◌, subst}
 use mathlib.Core.Bool.{Bool, true, false, ◌&&◌}
 use mathlib.Core.List.{List, [], ◌∷◌}
 use mathlib.Core.Logic.{◌⊎◌, ⊎_elim}
-use Prim.Native.Nat.{ℕ, ◌+◌, ◌≤◌, ◌<◌}
+use Prim.Native.Nat.{ℕ, ◌+◌, ◌≤◌, ◌<◌, min}
 use native.Mathlib.Numerals.{add-one}
 use native.Mathlib.Omega.{arith}
 use lib.Dec.{leb}
@@ -15,22 +16,21 @@ use Rattle.words.specs.Padded.{zeros}
 use Rattle.words.proofs.Padded.{padded_none, sets_zeros}
 use Rattle.words.proofs.Shared.{and_left, and_right}
 use Rattle.refusal.specs.Refusals.{refusal_number, largest_file}
-use Rattle.refusal.specs.declared.Answer.{Answer}
-use Rattle.refusal.specs.declared.Answer.TheVariants.{Done, Refused}
 use Rattle.refusal.specs.declared.Refusal.{Refusal}
 use Rattle.refusal.specs.declared.Refusal.TheVariants.{FileTooLarge, UnknownKind, RegionOutside, LentTooShort}
+use Rattle.dalvik.specs.Instructions as dalvik
 use Rattle.kinds.specs.declared.Kind.{Kind}
 use Rattle.kinds.specs.Kinds.{meant}
-use Rattle.code_item_scan.specs.declared.refusals.Admission.{Admission}
-use Rattle.code_item_scan.specs.declared.refusals.Admission.TheVariants.{Scan, Refuse}
 use Rattle.code_item_scan.specs.Scan as S
+use Rattle.code_item_scan.specs.Next.{Finds}
+use Rattle.code_item_scan.specs.declared.Found.{Found}
 use Rattle.code_item_scan.specs.Answers.{HitWords, hit_room_of, Gives}
 use Rattle.code_item_scan.specs.Steps.{Admitted, large, unknown, backward, past_end, scan, Cleared, fits_both, Settled, Collected, Region}
 
 -- ---- what an admission says
 
-module _ (s : List ℕ) (A : S.Asked) {r : Admission} where
-  module _ (known : Kind) (e : r ≡ Scan known) where
+module _ (s : List ℕ) (A : S.Asked) {r : (Result Kind Refusal)} where
+  module _ (known : Kind) (e : r ≡ Ok known) where
     pub admitted_region : Admitted (length s) A.from A.to A.kind r → Region s A.from A.to
     admitted_region (large f l) = let z : ◌≡◌ {A = ℕ} 0 1 = cc in absurd (omega arith)
     admitted_region (unknown f l k) = let z : ◌≡◌ {A = ℕ} 0 1 = cc in absurd (omega arith)
@@ -50,7 +50,7 @@ module _ (s : List ℕ) (A : S.Asked) {r : Admission} where
         simp (l, i, le-leb A.from A.to g, le-leb A.to (length s) h)
         (ap (λ (j : Kind). S.scanned R (S.hits_of s (meant j) A.wanted A.from A.to)) d)
 
-  pub admitted_refusal : (R : S.HitRoom) (why : Refusal) → r ≡ Refuse why → Admitted (length s) A.from A.to A.kind r
+  pub admitted_refusal : (R : S.HitRoom) (why : Refusal) → r ≡ Err why → Admitted (length s) A.from A.to A.kind r
       → S.scan_out s A R ≡ S.no_scan (refusal_number why)
   unfolding S.scan_out
   admitted_refusal R why e (large f l) = let d : FileTooLarge ≡ why = cc in simp l (ap (λ (x : Refusal). S.no_scan (refusal_number x)) d)
@@ -62,6 +62,15 @@ module _ (s : List ℕ) (A : S.Asked) {r : Admission} where
       let d : RegionOutside ≡ why = cc in
       simp (l, i, le-leb A.from A.to g, lt-leb A.to (length s) h) (ap (λ (x : Refusal). S.no_scan (refusal_number x)) d)
   admitted_refusal R why e (scan k f l i g h) = let z : ◌≡◌ {A = ℕ} 0 1 = cc in absurd (omega arith)
+
+-- ---- a hit of a region that lies in the file
+
+pub found_inside : {s : List ℕ} {kind : dalvik.Kind} {wants : ℕ → Bool} {from at to : ℕ} {r : Option Found} → Region s from to
+    → Finds s (S.sought kind wants at (min to (length s))) r
+    → Finds s (S.sought kind wants at to) r
+found_inside {s} {kind} {wants} {at = at} {to = to} {r = r} g f =
+    let cut : min to (length s) ≡ to = omega (arith, g) in
+    subst (λ (n : ℕ). Finds s (S.sought kind wants at n) r) cut f
 
 -- ---- the hits stored so far: n are stored, and fs of all are still to come
 
@@ -101,13 +110,13 @@ and_false true = refl
 and_false false = refl
 
 module _ (n : ℕ) (before : HitWords) where
-  pub settle_kept : n ≤ length before.offs → n ≤ length before.marks → Settled n before before (Done n)
+  pub settle_kept : n ≤ length before.offs → n ≤ length before.marks → Settled n before before (Ok n)
   settle_kept a b =
       let e : fits_both n before ≡ true = simp (le-leb n (length before.offs) a, le-leb n (length before.marks) b) in
       record { answer = rw e; starts = rw e; indices = rw e }
 
   pub settle_cleared : (after : HitWords) → (length before.offs < n) ⊎ (length before.marks < n) → Cleared before after
-      → Settled n before after (Refused LentTooShort)
+      → Settled n before after (Err LentTooShort)
   settle_cleared after h z =
       let e : fits_both n before ≡ false =
       ⊎_elim (λ a. rw (lt-leb n (length before.offs) a))
@@ -115,7 +124,7 @@ module _ (n : ℕ) (before : HitWords) where
       record { answer = rw e; starts = rw e z.starts; indices = rw e z.indices }
 
 pub gives_refused : {o : S.Scan} {before after : HitWords} (why : Refusal) → o ≡ S.no_scan (refusal_number why) → Cleared before after
-    → Gives o (Refused why) before after
+    → Gives o (Err why) before after
 gives_refused {before = before} why e z =
     rw e
     (record {
@@ -126,7 +135,7 @@ gives_refused {before = before} why e z =
     })
 
 -- hits collected into zeros, and settled
-module _ {o : S.Scan} {r : Answer} {before cleared filled after : HitWords} {n : ℕ} {hits : List S.Hit}
+module _ {o : S.Scan} {r : (Result ℕ Refusal)} {before cleared filled after : HitWords} {n : ℕ} {hits : List S.Hit}
     (e : o ≡ S.scanned (hit_room_of before) hits) (z : Cleared before cleared) (g : Collected hits cleared filled n) (t : Settled n filled after r) where
   offs_long : length filled.offs ≡ length before.offs
   offs_long = ap length g.starts ∙ simp (length-sets, z.starts, length-replicate)
@@ -134,7 +143,7 @@ module _ {o : S.Scan} {r : Answer} {before cleared filled after : HitWords} {n :
   marks_long : length filled.marks ≡ length before.marks
   marks_long = ap length g.indices ∙ simp (length-sets, z.indices, length-replicate)
 
-  fits : length hits ≤ length before.offs → length hits ≤ length before.marks → r ≡ Done n → after.offs ≡ filled.offs
+  fits : length hits ≤ length before.offs → length hits ≤ length before.marks → r ≡ Ok n → after.offs ≡ filled.offs
       → after.marks ≡ filled.marks
       → Gives o r before after
   fits a b er eo em =
@@ -155,7 +164,7 @@ module _ {o : S.Scan} {r : Answer} {before cleared filled after : HitWords} {n :
       fits (omega (arith, g.counted, offs_long)) (omega (arith, g.counted, marks_long)) (t.answer ∙ rw q) (t.starts ∙ rw q) (t.indices ∙ rw q)
   settled_by false q =
       let f : S.scanned (hit_room_of before) hits ≡ S.no_scan 4 = rw (← g.counted, ← offs_long, ← marks_long, q) in
-      let er : r ≡ Refused LentTooShort = t.answer ∙ rw q in
+      let er : r ≡ Err LentTooShort = t.answer ∙ rw q in
       rw er
       (gives_refused LentTooShort (e ∙ f)
       (record { starts = t.starts ∙ rw q (ap zeros offs_long); indices = t.indices ∙ rw q (ap zeros marks_long) }))

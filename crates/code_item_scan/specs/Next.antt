@@ -1,12 +1,11 @@
 -- Hits one at a time: what next_hit tells of a region, for whichever indices the set that it is lent holds.
 -- Assumes nothing.
-use Rattle.std.specs.Prelude.{ℕ, ◌*◌, ◌≤◌, ◌<◌, ◌≡◌, Bool, false, cond, ◌&&◌, List, [], ◌∷◌, length, get_or, ltb, leb}
+use Rattle.std.specs.Prelude.{ℕ, ◌*◌, ◌≤◌, ◌<◌, ◌≡◌, Bool, false, cond, ◌&&◌, List, [], ◌∷◌, length, get_or, ltb, leb, Option, Some, None}
 use Rattle.dalvik.specs.Instructions.{Kind}
 use Rattle.kinds.specs.Kinds.{is_strings}
 use Rattle.index_set.specs.Bits.{is_held}
 use Rattle.code_item_scan.specs.Scan.{is_in, Sought, sought, hits_by}
 use Rattle.code_item_scan.specs.declared.Found.{Found}
-use Rattle.code_item_scan.specs.declared.Found.TheVariants.{At, Nothing}
 
 -- a set of indices: a byte for each index of two bytes, a bit for each string index, and whether the words have others
 pub record IndexSet : Type 0 where
@@ -49,6 +48,6 @@ pub record FirstHit (s : List ℕ) (Q : Sought) (off mark next : ℕ) : Type 0 w
   pub inside : next ≤ Q.to
 
 -- what is found: the first hit, or that there is none
-pub record Finds (s : List ℕ) (Q : Sought) (r : Found) : Type 0 where
-  pub hit : (off mark next : ℕ) → r ≡ At off mark next → FirstHit s Q off mark next
-  pub none_left : r ≡ Nothing → hits_by s Q ≡ []
+pub record Finds (s : List ℕ) (Q : Sought) (r : Option Found) : Type 0 where
+  pub hit : (f : Found) → r ≡ Some f → FirstHit s Q f.off f.mark f.next
+  pub none_left : r ≡ None → hits_by s Q ≡ []

@@ -2,7 +2,7 @@
 -- with a wanted index. Kinds and widths are kinds's. What an instruction is and what it names is dalvik's; that none is lost is demand 3.
 -- Assumes nothing.
 use Rattle.std.specs.Prelude.{ℕ, zero, suc, ◌+◌, ◌-◌, ◌%◌, List, [], ◌∷◌, map, Bool, true, false, cond, ◌&&◌, ◌||◌, length, ltb, leb, eqb}
-use Rattle.std.proofs.Math.Option.{Option, none, some}
+use Rattle.std.specs.Prelude.{Option, Some, None}
 use Rattle.dalvik.specs.Numbers.{byte, le16, le32}
 use Rattle.dalvik.specs.Instructions.{Kind}
 use Rattle.dalvik.specs.Instructions.Kind.{strings, types, fields, methods}
@@ -102,8 +102,8 @@ abbrev pub scanned : HitRoom → List Hit → Scan
 scanned R hits = cond (leb (length hits) R.offs && leb (length hits) R.marks) (record { number = 0; hits = hits }) (no_scan 4)
 
 abbrev pub scanned_as : List ℕ → Asked → HitRoom → Option Kind → Scan
-scanned_as s A R none = no_scan 2
-scanned_as s A R (some kind) =
+scanned_as s A R None = no_scan 2
+scanned_as s A R (Some kind) =
     cond (leb A.from A.to && leb A.to (length s)) (scanned R (hits_of s kind A.wanted A.from A.to)) (no_scan 12)
 
 -- 1, 2, 12, 4

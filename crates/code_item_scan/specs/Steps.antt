@@ -1,15 +1,14 @@
 -- What the inner steps of the scan promise each other; the scan itself is Scan.antt.
 -- Assumes nothing.
+use Rattle.refusal.specs.declared.Refusal.{Refusal}
 use Rattle.std.specs.Prelude.{ℕ, ◌+◌, ◌*◌, ◌<◌, ◌≤◌, ◌≡◌, Bool, true, false, cond, ◌&&◌, List, length, get_or, ltb, leb}
-use Rattle.std.proofs.Math.Option.{Option, none, some}
+use Rattle.std.specs.Prelude.{Option, Some, None, Result, Ok, Err}
 use Rattle.std.proofs.lemmas.List.Edits.{sets}
 use Rattle.words.specs.Padded.{zeros}
 use Rattle.dalvik.specs.Numbers.{byte}
 use Rattle.dalvik.specs.Instructions as dalvik
 use Rattle.dalvik.specs.Instructions.Kind.{strings}
 use Rattle.refusal.specs.Refusals.{largest_file, is_too_large}
-use Rattle.refusal.specs.declared.Answer.{Answer}
-use Rattle.refusal.specs.declared.Answer.TheVariants.{Done, Refused}
 use Rattle.refusal.specs.declared.Refusal.TheVariants.{FileTooLarge, UnknownKind, RegionOutside, LentTooShort}
 use Rattle.kinds.specs.declared.Kind.{Kind}
 use Rattle.kinds.specs.Width.{width_of}
@@ -20,21 +19,17 @@ use Rattle.code_item_scan.specs.Scan.{sought, index_at, is_in, hits_by}
 use Rattle.code_item_scan.specs.Next.{index_count, tabled, Finds}
 use Rattle.code_item_scan.specs.Answers.{HitWords}
 use Rattle.code_item_scan.specs.declared.Found.{Found}
-use Rattle.code_item_scan.specs.declared.hits.Hit.{Hit}
-use Rattle.code_item_scan.specs.declared.hits.Hit.TheVariants.{Mark, Nothing}
-use Rattle.code_item_scan.specs.declared.refusals.Admission.{Admission}
-use Rattle.code_item_scan.specs.declared.refusals.Admission.TheVariants.{Scan, Refuse}
 
 -- ---- refusals
 
 -- the first that holds of 1, 2 and 12, for a region of a file of len bytes; else the scan, for the kind asked for
-pub data Admitted (len from to kind : ℕ) (r : Admission) : Type 0 where
-  large : r ≡ Refuse FileTooLarge → is_too_large len ≡ true → Admitted len from to kind r
-  unknown : r ≡ Refuse UnknownKind → is_too_large len ≡ false → kind_of kind ≡ none → Admitted len from to kind r
-  backward : (k : Kind) → r ≡ Refuse RegionOutside → is_too_large len ≡ false → kind_of kind ≡ some (meant k) → to < from → Admitted len from to kind r
-  past_end : (k : Kind) → r ≡ Refuse RegionOutside → is_too_large len ≡ false → kind_of kind ≡ some (meant k) → from ≤ to → len < to
+pub data Admitted (len from to kind : ℕ) (r : Result Kind Refusal) : Type 0 where
+  large : r ≡ Err FileTooLarge → is_too_large len ≡ true → Admitted len from to kind r
+  unknown : r ≡ Err UnknownKind → is_too_large len ≡ false → kind_of kind ≡ None → Admitted len from to kind r
+  backward : (k : Kind) → r ≡ Err RegionOutside → is_too_large len ≡ false → kind_of kind ≡ Some (meant k) → to < from → Admitted len from to kind r
+  past_end : (k : Kind) → r ≡ Err RegionOutside → is_too_large len ≡ false → kind_of kind ≡ Some (meant k) → from ≤ to → len < to
       → Admitted len from to kind r
-  scan : (k : Kind) → r ≡ Scan k → is_too_large len ≡ false → kind_of kind ≡ some (meant k) → from ≤ to → to ≤ len → Admitted len from to kind r
+  scan : (k : Kind) → r ≡ Ok k → is_too_large len ≡ false → kind_of kind ≡ Some (meant k) → from ≤ to → to ≤ len → Admitted len from to kind r
 
 -- both lent slices are zero
 pub record Cleared (before after : HitWords) : Type 0 where
@@ -45,8 +40,8 @@ abbrev pub fits_both : ℕ → HitWords → Bool
 fits_both n words = leb n (length words.offs) && leb n (length words.marks)
 
 -- n hits fit both slices, which stay, or the slices are cleared
-pub record Settled (n : ℕ) (before after : HitWords) (r : Answer) : Type 0 where
-  pub answer : r ≡ cond (fits_both n before) (Done n) (Refused LentTooShort)
+pub record Settled (n : ℕ) (before after : HitWords) (r : Result ℕ Refusal) : Type 0 where
+  pub answer : r ≡ cond (fits_both n before) (Ok n) (Err LentTooShort)
   pub starts : after.offs ≡ cond (fits_both n before) before.offs (zeros (length before.offs))
   pub indices : after.marks ≡ cond (fits_both n before) before.marks (zeros (length before.marks))
 
@@ -72,13 +67,9 @@ pub record WantedOf (wanted bits : List ℕ) (others : Bool) : Type 0 where
 
 -- ---- one start
 
-abbrev pub marked : Hit → Option ℕ
-marked (Mark x) = some x
-marked Nothing = none
-
 -- the wanted index that the bytes at p name, whether p is tried or not
 abbrev pub named_by : List ℕ → (ℕ → Bool) → ℕ → ℕ → ℕ → Option ℕ
-named_by s wants to p w = cond (ltb 0 w && leb (p + 2 + w) to && wants (index_at s (p + 2) w)) (some (index_at s (p + 2) w)) none
+named_by s wants to p w = cond (ltb 0 w && leb (p + 2 + w) to && wants (index_at s (p + 2) w)) (Some (index_at s (p + 2) w)) None
 
 unfoldable pub named : List ℕ → dalvik.Kind → (ℕ → Bool) → ℕ → ℕ → Option ℕ
 named s kind wants to p = named_by s wants to p (width_of kind (byte s p))
@@ -107,7 +98,7 @@ pub record SkippedEven (s : List ℕ) (to : ℕ) (table : List ℕ) (p r : ℕ) 
       → hits_by s (sought kind wants p to) ≡ hits_by s (sought kind wants r to)
 
 -- the next hit of a kind other than strings
-abbrev pub FindsEven : List ℕ → dalvik.Kind → List ℕ → ℕ → ℕ → Found → Type 0
+abbrev pub FindsEven : List ℕ → dalvik.Kind → List ℕ → ℕ → ℕ → Option Found → Type 0
 FindsEven s kind table from to r = (wants : ℕ → Bool) → Told table wants → Finds s (sought kind wants from to) r
 
 -- ---- the whole region

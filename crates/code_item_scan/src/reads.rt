@@ -8,7 +8,7 @@ fn byte_inside(s: &[u8], i: usize) -> u32
     requires { i < length s.now }
     ensures { ByteAt s.now i result }
 {
-    s[i] as u32
+    u32::from(s[i])
 }
 
 pub(crate) fn u16_inside(s: &[u8], i: usize) -> u32

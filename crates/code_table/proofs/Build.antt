@@ -3,6 +3,7 @@
 --     from_whole, from_short    the outcome of codes found
 --     gives_none, whole, short  answer and lent words are the outcome's
 -- Assumes nothing.
+use Rattle.std.specs.Prelude.{Option, Some, None, Ok, Err}
 use mathlib.Core.Path.{◌≡◌, refl, sym, ap, ap₂, subst, subst⁻¹, ◌∙◌}
 use mathlib.Core.List.{List, [], ◌∷◌}
 use mathlib.Core.Logic.{◌⊎◌, ⊎_elim}
@@ -26,10 +27,9 @@ use Rattle.code_table.specs.Slots.{base_of, top_of, table_of}
 use Rattle.code_table.specs.RegionEnd.{region_end}
 use Rattle.code_table.specs.Build.{Room, Build, no_build, whole_build, built_from, most_shares}
 use Rattle.code_table.specs.Answer.{TableWords, table_words, room_of, GivesBuild}
-use Rattle.code_table.specs.Steps.{no_code, most_buckets, Triples, room, SlotWords, slot_words, HoldsAll, TabledAs}
+use Rattle.code_table.specs.Steps.{no_code, most_buckets, Triples, Coded, room, SlotWords, slot_words, HoldsAll, TabledAs}
 use Rattle.code_table.specs.declared.Tabled.{Tabled}
-use Rattle.code_table.specs.declared.Tabled.TheVariants.{Filled, Short}
-use Rattle.code_table.specs.declared.Built.TheVariants.{Done, Refused}
+use Rattle.code_table.specs.declared.Built.{Built}
 use Rattle.code_table.proofs.Buckets.{base_least, top_greatest}
 use Rattle.code_table.proofs.Slots.{table_length}
 
@@ -104,9 +104,9 @@ pub record AllZero (before after : TableWords) : Type 0 where
 
 -- a refusal's answer, and lent words that are all zero
 pub gives_none : (b : Build) (r : Refusal) (before after : TableWords) → b ≡ no_build (refusal_number r) → AllZero before after
-    → GivesBuild b (Refused r) before after
+    → GivesBuild b (Err r) before after
 gives_none b r before after e z =
-    subst⁻¹ (λ (o : Build). GivesBuild o (Refused r) before after) e
+    subst⁻¹ (λ (o : Build). GivesBuild o (Err r) before after) e
     (record {
       number = refl;
       from = refl;
@@ -124,17 +124,21 @@ gives_none b r before after e z =
 abbrev pub slots_in : TableWords → SlotWords
 slots_in w = slot_words w.slots w.shares
 
+-- the answer for n codes, whose region ends at x
+abbrev pub built_as : ℕ → Tabled → ℕ → Built
+built_as n t x = record { region = record { start = t.base * 16; end = x }; codes = n; slots = t.top - t.base; shares = t.used }
+
 module _ (len : ℕ) {n : ℕ} {cs : List Code} (before : TableWords) (T : Triples before.triples n cs) (m e : ℕ) where
-  pub whole : {b t k x : ℕ} {w : SlotWords} → HoldsAll cs b t k (slots_in before) w → x ≡ region_end len cs
+  pub whole : {t : Tabled} {x : ℕ} {w : SlotWords} → HoldsAll cs t (slots_in before) w → x ≡ region_end len cs
       → before.starts ≡ padded (length before.starts) (starts_of m cs)
-      → GivesBuild (built_from len m (room_of before) (found cs e)) (Done (record { start = b * 16; end = x }) n (t - b) k)
+      → GivesBuild (built_from len m (room_of before) (found cs e)) (Ok (built_as n t x))
       before (table_words before.starts before.triples w.slots w.shares)
-  whole {b} {t} {k} {x} {w} A E s =
+  whole {t} {x} {w} A E s =
       let H = A.held in
       let p : 3 * length cs ≤ length before.triples = omega (arith, T.there, T.count) in
       let q : length (table_of cs).shares ≤ room (length before.shares) = omega (arith, H.used, H.fits) in
       let after = table_words before.starts before.triples w.slots w.shares in
-      subst⁻¹ (λ (o : Build). GivesBuild o (Done (record { start = b * 16; end = x }) n (t - b) k) before after)
+      subst⁻¹ (λ (o : Build). GivesBuild o (Ok (built_as n t x)) before after)
       (from_whole len m e (room_of before) cs p A.enough (omega arith) (omega arith))
       (record {
         number = refl;
@@ -150,13 +154,26 @@ module _ (len : ℕ) {n : ℕ} {cs : List Code} (before : TableWords) (T : Tripl
       })
 
   pub short : {after : TableWords} → (length before.slots < top_of cs - base_of cs) ⊎ (room (length before.shares) < length (table_of cs).shares)
-      → AllZero before after → GivesBuild (built_from len m (room_of before) (found cs e)) (Refused LentTooShort) before after
+      → AllZero before after → GivesBuild (built_from len m (room_of before) (found cs e)) (Err LentTooShort) before after
   short {after} d z = gives_none _ LentTooShort before after (from_short len m e (room_of before) cs d) z
 
 -- ---- an answer of `slot_table`, taken apart
-module _ (cs : List Code) (r : Tabled) (before after : SlotWords) (A : TabledAs cs r before after) where
-  pub tabled_filled : {b e k : ℕ} → r ≡ Filled b e k → HoldsAll cs b e k before after
-  tabled_filled q = subst (λ (x : Tabled). TabledAs cs x before after) q A
+module _ (cs : List Code) (r : Option Tabled) (before after : SlotWords) (A : TabledAs cs r before after) where
+  pub tabled_filled : {t : Tabled} → r ≡ Some t → HoldsAll cs t before after
+  tabled_filled q = subst (λ (x : Option Tabled). TabledAs cs x before after) q A
 
-  pub tabled_short : r ≡ Short → (length before.slots < top_of cs - base_of cs) ⊎ (room (length before.shares) < length (table_of cs).shares)
-  tabled_short q = subst (λ (x : Tabled). TabledAs cs x before after) q A
+  pub tabled_short : r ≡ None → (length before.slots < top_of cs - base_of cs) ⊎ (room (length before.shares) < length (table_of cs).shares)
+  tabled_short q = subst (λ (x : Option Tabled). TabledAs cs x before after) q A
+
+-- the buckets of a table that some codes have
+pub record Buckets (t : Tabled) : Type 0 where
+  pub small : t.top ≤ most_buckets
+  pub rises : t.base ≤ t.top
+
+pub buckets_of : {ts : List ℕ} {n : ℕ} (r : Option Tabled) (t : Tabled) (before after : SlotWords) → Coded ts n
+    → ((cs : List Code) → Triples ts n cs → TabledAs cs r before after) → r ≡ Some t → Buckets t
+buckets_of r t before after C f q =
+    let A = tabled_filled C.codes r before after (f C.codes C.triples) q in
+    let p = top_small C.triples in
+    let b = base_below C.triples in
+    record { small = omega (arith, A.top); rises = omega (arith, A.base, A.top) }

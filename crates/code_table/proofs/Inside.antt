@@ -5,6 +5,7 @@
 --     never_12, never_15   the outcome's number
 --     both                 the clauses of the contract, from what the build gives
 -- Assumes nothing.
+use Rattle.std.specs.Prelude.{Result}
 use Prim.Native.Nat.{ℕ, ◌-◌, ◌*◌}
 use native.Mathlib.Omega.{arith}
 use mathlib.Core.Path.{◌≡◌, refl}
@@ -15,6 +16,7 @@ use mathlib.Core.List.{List, [], ◌∷◌}
 use lib.Dec.{leb}
 use lib.ListN.{length}
 use Rattle.words.proofs.Shared.{cond_elim}
+use Rattle.refusal.specs.declared.Refusal.{Refusal}
 use Rattle.refusal.specs.Refusals.{refusal_number, is_too_large}
 use Rattle.start_words.specs.Starts.{pairs_in}
 use Rattle.tinydex.specs.declared.DexHeader.{DexHeader}
@@ -83,7 +85,7 @@ module _ (s : List ℕ) (h : DexHeader) (room : Room) where
   pub never_15 : (build_out s h room).number ≢ 15
   never_15 = (inside s h room).not_15
 
-pub both : (s : List ℕ) (h : DexHeader) {r : Built} {before after : TableWords} → GivesBuild (build_out s h (room_of before)) r before after
+pub both : (s : List ℕ) (h : DexHeader) {r : Result Built Refusal} {before after : TableWords} → GivesBuild (build_out s h (room_of before)) r before after
     → GivesBuild (build_out s h (room_of before)) r before after × RegionInside (length s) (built_region r).start (built_region r).end
 both s h {r} {before} G =
     let I = region_inside s h (room_of before) in

@@ -2,11 +2,11 @@
 -- file ends before both.
 --     end_inside           never past the file's end
 --     end_holds            an array that lies in the file lies before it
---     end_whole, end_cut   the greatest bucket lies inside, or sticks out
+--     end_least            the file's end, or that of the greatest bucket
 --     base_end             never before the region's first byte
 --     slots_few            its buckets are among those from 1 up to the file's last
 -- Assumes nothing.
-use Prim.Native.Nat.{ℕ, ◌+◌, ◌-◌, ◌*◌, ◌/◌, ◌≤◌, ◌<◌, min}
+use Prim.Native.Nat.{ℕ, ◌+◌, ◌-◌, ◌*◌, ◌/◌, ◌≤◌, min}
 use native.Mathlib.Omega.{arith}
 use mathlib.Core.Path.{◌≡◌, refl}
 use mathlib.Core.List.{List, [], ◌∷◌, Memᴰ}
@@ -25,13 +25,9 @@ module _ (len : ℕ) (cs : List Code) where
   unfolding region_end
   end_holds c m h = omega (arith, top_lt m)
 
-  pub end_whole : (top : ℕ) → top ≡ top_of cs → top * 16 ≤ len → top * 16 ≡ region_end len cs
+  pub end_least : (top : ℕ) → top ≡ top_of cs → min len (top * 16) ≡ region_end len cs
   unfolding region_end
-  end_whole top e h = omega arith
-
-  pub end_cut : (top : ℕ) → top ≡ top_of cs → len < top * 16 → len ≡ region_end len cs
-  unfolding region_end
-  end_cut top e h = omega arith
+  end_least top e = omega arith
 
 -- ---- of codes that lie in the file
 abbrev pub AllInside : ℕ → List Code → Type 0

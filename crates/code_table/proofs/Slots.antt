@@ -6,13 +6,14 @@
 --     up_to, table_all, table_length, table_over   the first i codes placed
 --     placeable, turn                       code i placed by its triple
 -- Assumes nothing.
+use Rattle.std.specs.Prelude.{Option, Some, None}
 use mathlib.Core.Path.{◌≡◌, refl, sym, ap, ap₂, subst, ◌∙◌}
 use mathlib.Core.List.{List, [], ◌∷◌, ◌++◌, append_assoc, append-nil}
 use Prim.Native.Nat.{ℕ, zero, suc, ◌+◌, ◌-◌, ◌*◌, ◌/◌, ◌≤◌, ◌<◌, min, max}
 use native.Mathlib.Numerals.{add-one}
 use native.Mathlib.Omega.{arith}
 use lib.Dec.{ltb}
-use lib.ListN.{length, get_or, take, drop, replicate, set, length-append, length-replicate, take-append-drop}
+use lib.ListN.{length, get_or, take, drop, replicate, length-append, length-replicate, take-append-drop}
 use lib.Seq.{sets, take-suc, drop-cons, take_all}
 use borrow.Author.Tests.{lt-ltb, le-ltb, eq-eqb, ne_eqb}
 use Rattle.words.specs.Padded.{zeros, padded, stretch}
@@ -21,9 +22,8 @@ use Rattle.words.proofs.Shared.{cond_elim}
 use Rattle.dalvik.specs.CodeItem.{Code}
 use Rattle.class_data.specs.Stored.{first_bucket, last_bucket, triples_of}
 use Rattle.code_table.specs.Slots.{lowest, base_of, top_of, shared, joined, joined_slot, Table, place, table_from, table_of}
-use Rattle.code_table.specs.Steps.{no_code, Triples, room, Triple, three_words, Words, SlotWords, slot_words, Holds, After, Placeable, PlacedIn}
-use Rattle.code_table.specs.declared.Placed.{Placed}
-use Rattle.code_table.specs.declared.Placed.TheVariants.{Done, Full}
+use Rattle.code_table.specs.Steps.{no_code, Triples, room, three_words, Words, SlotWords, slot_words, Holds, After, Placeable, PlacedIn}
+use Rattle.code_table.specs.declared.Triple.{Triple}
 use Rattle.code_table.proofs.Buckets.{base_least, top_greatest}
 
 -- ---- the three words of a code
@@ -87,12 +87,6 @@ padded_more n xs (y ∷ ys) k e h =
     ap (λ (z : List ℕ). sets z (suc k) ys) (padded_push n xs k y (sym e) (omega arith))
     ∙ padded_more n (xs ++ y ∷ []) ys (suc k) l (omega arith)
     ∙ ap (padded n) (append_assoc xs (y ∷ []) ys)
-
-pub three_sets : (ws : List ℕ) (k a b c : ℕ) → set (set (set ws k a) (k + 1) b) (k + 2) c ≡ sets ws k (a ∷ b ∷ c ∷ [])
-three_sets ws k a b c =
-    let p : k + 1 ≡ suc k = omega arith in
-    let q : k + 2 ≡ suc (suc k) = omega arith in
-    rw (p, q)
 
 -- ---- the share that a method adds
 module _ (v m : ℕ) (ws : List ℕ) where
@@ -283,7 +277,7 @@ module _ {ts : List ℕ} {n : ℕ} {cs : List Code} (T : Triples ts n cs) {base 
       let t = top_greatest cs i below in
       record { above = omega arith; rises = omega arith; inside = omega arith; small = omega arith; fits = u }
 
-  pub turn : {N W used : ℕ} (r : Placed) {before : SlotWords} (after : SlotWords) → length before.shares ≡ W → Holds N W (up_to cs i) before used
+  pub turn : {N W used : ℕ} (r : Option ℕ) {before : SlotWords} (after : SlotWords) → length before.shares ≡ W → Holds N W (up_to cs i) before used
       → PlacedIn base (three_words (get_or ts (3 * i) 0) (get_or ts (3 * i + 1) 0) (get_or ts (3 * i + 2) 0)) used r before after
       → After N W (up_to cs (i + 1)) r after
   turn {N} {W} r after w H P =
@@ -300,8 +294,8 @@ module _ {ts : List ℕ} {n : ℕ} {cs : List Code} (T : Triples ts n cs) {base 
       let e : place base d (up_to cs i) ≡ up_to cs (i + 1) = ap (λ (x : ℕ). place x d (up_to cs i)) least ∙ sym (table_step cs i below) in
       subst (λ (t : Table). After N W t r after) e A
 
-pub after_done : {N W : ℕ} {t : Table} {r : Placed} {w : SlotWords} (k : ℕ) → r ≡ Done k → After N W t r w → Holds N W t w k
-after_done {N} {W} {t} {r} {w} k e A = subst (λ (x : Placed). After N W t x w) e A
+pub after_done : {N W : ℕ} {t : Table} {r : (Option ℕ)} {w : SlotWords} (k : ℕ) → r ≡ Some k → After N W t r w → Holds N W t w k
+after_done {N} {W} {t} {r} {w} k e A = subst (λ (x : Option ℕ). After N W t x w) e A
 
-pub after_full : (N W : ℕ) (t : Table) (r : Placed) (w : SlotWords) → r ≡ Full → After N W t r w → room W < length t.shares
-after_full N W t r w e A = subst (λ (x : Placed). After N W t x w) e A
+pub after_full : (N W : ℕ) (t : Table) (r : Option ℕ) (w : SlotWords) → r ≡ None → After N W t r w → room W < length t.shares
+after_full N W t r w e A = subst (λ (x : Option ℕ). After N W t x w) e A

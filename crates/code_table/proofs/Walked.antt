@@ -5,6 +5,7 @@
 --     sound_at                      what the walk lets pass
 --     taken_triples, gives_gained   what `codes` leaves, and the build makes of it
 -- Assumes nothing.
+use Rattle.std.specs.Prelude.{Result}
 use mathlib.Core.Path.{◌≡◌, sym, ap, subst⁻¹, ◌∙◌}
 use mathlib.Core.List.{List, [], ◌∷◌}
 use mathlib.Core.Bool.{Bool, true, false, cond, ◌&&◌}
@@ -92,7 +93,7 @@ pub sound_at : (s : List ℕ) (h : DexHeader) (cs : List Code) (e : ℕ) → fou
 sound_at s h cs e w p i q = sound_code s h.methods.size _ p (each_at _ cs (codes_sound s h cs e w) i q)
 
 -- what the outcome says of lent words, only their lengths decide
-same_room : {b : Build} {r : Built} (before mid after : TableWords) → room_of mid ≡ room_of before → GivesBuild b r mid after
+same_room : {b : Build} {r : Result Built Refusal} (before mid after : TableWords) → room_of mid ≡ room_of before → GivesBuild b r mid after
     → GivesBuild b r before after
 same_room {b} before mid after e G = record {
   number = G.number;
@@ -122,7 +123,7 @@ module _ {s : List ℕ} {h : DexHeader} {n : ℕ} (before mid : TableWords)
     sound = λ i q. sound_at s h K.codes K.next K.walk K.small i (omega (arith, K.count));
   }
 
-  pub gives_gained : (r : Built) (after : TableWords) → Finished (length s) n r mid after
+  pub gives_gained : (r : Result Built Refusal) (after : TableWords) → Finished (length s) n r mid after
       → GivesBuild (build_out s h (room_of before)) r before after
   gives_gained r after F =
       let m = h.methods.size in

@@ -1,38 +1,38 @@
 -- What the contract of `parse` says: the lent words before and after, the refusal's number, the region and the counts of an answer, case by
 -- case, and that answer and lent words are the outcome's.
 -- Assumes nothing.
-use Rattle.std.specs.Prelude.{ℕ, ◌*◌, ◌≡◌, List, length}
+use Rattle.std.specs.Prelude.{ℕ, ◌*◌, ◌≡◌, List, length, Result, Ok, Err}
 use Rattle.words.specs.Padded.{padded}
+use Rattle.refusal.specs.declared.Refusal.{Refusal}
 use Rattle.refusal.specs.Refusals.{refusal_number}
 use Rattle.code_table.specs.Build.{Room, Build}
 use Rattle.code_table.specs.declared.Region.{Region}
 use Rattle.code_table.specs.declared.Built.{Built}
-use Rattle.code_table.specs.declared.Built.TheVariants.{Done, Refused}
 
 -- 0 for success
-abbrev pub built_number : Built → ℕ
-built_number (Done region codes slots shares) = 0
-built_number (Refused r) = refusal_number r
+abbrev pub built_number : Result Built Refusal → ℕ
+built_number (Ok b) = 0
+built_number (Err r) = refusal_number r
 
 -- 0 to 0 for a refusal
-abbrev pub built_region : Built → Region
-built_region (Done region codes slots shares) = region
-built_region (Refused r) = record { start = 0; end = 0 }
+abbrev pub built_region : Result Built Refusal → Region
+built_region (Ok b) = b.region
+built_region (Err r) = record { start = 0; end = 0 }
 
 -- the codes found, 0 for a refusal
-abbrev pub built_codes : Built → ℕ
-built_codes (Done region codes slots shares) = codes
-built_codes (Refused r) = 0
+abbrev pub built_codes : Result Built Refusal → ℕ
+built_codes (Ok b) = b.codes
+built_codes (Err r) = 0
 
 -- the slots in use, 0 for a refusal
-abbrev pub built_slots : Built → ℕ
-built_slots (Done region codes slots shares) = slots
-built_slots (Refused r) = 0
+abbrev pub built_slots : Result Built Refusal → ℕ
+built_slots (Ok b) = b.slots
+built_slots (Err r) = 0
 
 -- the words of shares in use, 0 for a refusal
-abbrev pub built_shares : Built → ℕ
-built_shares (Done region codes slots shares) = shares
-built_shares (Refused r) = 0
+abbrev pub built_shares : Result Built Refusal → ℕ
+built_shares (Ok b) = b.shares
+built_shares (Err r) = 0
 
 -- the four lent slices
 pub record TableWords : Type 0 where
@@ -49,7 +49,7 @@ abbrev pub room_of : TableWords → Room
 room_of w = record { starts = length w.starts; triples = length w.triples; slots = length w.slots; shares = length w.shares }
 
 -- an answer and the lent slices are the outcome's: each slice holds its list, and zeros after it
-pub record GivesBuild (b : Build) (r : Built) (before after : TableWords) : Type 0 where
+pub record GivesBuild (b : Build) (r : Result Built Refusal) (before after : TableWords) : Type 0 where
   pub number : built_number r ≡ b.number
   pub from : (built_region r).start ≡ b.from
   pub to : (built_region r).end ≡ b.to

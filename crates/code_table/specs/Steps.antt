@@ -2,7 +2,8 @@
 -- placed. The codes themselves are nowhere in the lent words, so a step asks that there are some, and says what it leaves for any.
 -- The definitions that the public contract cites are in Slots, Build and Answer.
 -- Assumes nothing.
-use Rattle.std.specs.Prelude.{ℕ, ◌-◌, ◌*◌, ◌≤◌, ◌<◌, min, ◌≡◌, List, ◌⊎◌, length, get_or}
+use Rattle.std.specs.Prelude.{ℕ, ◌-◌, ◌*◌, ◌≤◌, ◌<◌, min, ◌≡◌, List, ◌⊎◌, length, get_or, Option, Some, None, Result}
+use Rattle.refusal.specs.declared.Refusal.{Refusal}
 use Rattle.words.specs.Padded.{zeros, padded}
 use Rattle.dalvik.specs.CodeItem.{Code}
 use Rattle.class_data.specs.Walk.{most_methods}
@@ -12,10 +13,8 @@ use Rattle.code_table.specs.Slots.{base_of, top_of, Table, place, table_of}
 use Rattle.code_table.specs.Build.{most_shares, built_from}
 use Rattle.code_table.specs.Answer.{TableWords, room_of, GivesBuild}
 use Rattle.code_table.specs.declared.Built.{Built}
-use Rattle.code_table.specs.declared.Placed.{Placed}
-use Rattle.code_table.specs.declared.Placed.TheVariants.{Done, Full}
 use Rattle.code_table.specs.declared.Tabled.{Tabled}
-use Rattle.code_table.specs.declared.Tabled.TheVariants.{Filled, Short}
+use Rattle.code_table.specs.declared.Triple.{Triple}
 
 -- stands where a list of codes has none
 abbrev pub no_code : Code
@@ -47,12 +46,6 @@ pub record Coded (ts : List ℕ) (n : ℕ) : Type 0 where
 abbrev pub room : ℕ → ℕ
 room n = min n most_shares
 
--- three words: a first bucket, a last bucket and a method
-pub record Triple : Type 0 where
-  pub first : ℕ
-  pub last : ℕ
-  pub method : ℕ
-
 abbrev pub three_words : ℕ → ℕ → ℕ → Triple
 three_words first last method = record { first = first; last = last; method = method }
 
@@ -78,9 +71,9 @@ pub record Holds (N W : ℕ) (t : Table) (w : SlotWords) (k : ℕ) : Type 0 wher
   pub fits : k ≤ room W
 
 -- the table is held, or has more shares than the lent words can
-abbrev pub After : ℕ → ℕ → Table → Placed → SlotWords → Type 0
-After N W t (Done used) w = Holds N W t w used
-After N W t Full w = room W < length t.shares
+abbrev pub After : ℕ → ℕ → Table → Option ℕ → SlotWords → Type 0
+After N W t (Some used) w = Holds N W t w used
+After N W t None w = room W < length t.shares
 
 -- what placing asks for
 pub record Placeable (w : SlotWords) (used base : ℕ) (x : Triple) : Type 0 where
@@ -91,7 +84,7 @@ pub record Placeable (w : SlotWords) (used base : ℕ) (x : Triple) : Type 0 whe
   pub fits : used ≤ length w.shares
 
 -- what placing leaves of any table that the lent words held, and that has the code's slots
-abbrev pub PlacedIn : ℕ → Triple → ℕ → Placed → SlotWords → SlotWords → Type 0
+abbrev pub PlacedIn : ℕ → Triple → ℕ → Option ℕ → SlotWords → SlotWords → Type 0
 PlacedIn base x used r before after =
     (N W : ℕ) (c : Code) (t : Table) → length before.shares ≡ W → Words c x → x.last - base < length t.slots
     → Holds N W t before used → After N W (place base c t) r after
@@ -109,26 +102,26 @@ pub record Spanned (ts : List ℕ) (n base : ℕ) (w : SlotWords) : Type 0 where
   pub enough : top_of cleared.coded.codes - base ≤ length w.slots
 
 -- what placing all codes leaves
-abbrev pub AllPlaced : List ℕ → ℕ → ℕ → Placed → SlotWords → SlotWords → Type 0
+abbrev pub AllPlaced : List ℕ → ℕ → ℕ → Option ℕ → SlotWords → SlotWords → Type 0
 AllPlaced ts n base r before after =
     (cs : List Code) → Triples ts n cs → base ≡ base_of cs → top_of cs - base ≤ length before.slots
     → After (length before.slots) (length before.shares) (table_of cs) r after
 
--- the lent words hold the table of all codes, whose least bucket is b and whose greatest is e - 1
-pub record HoldsAll (cs : List Code) (b e k : ℕ) (before after : SlotWords) : Type 0 where
-  pub base : b ≡ base_of cs
-  pub top : e ≡ top_of cs
+-- the lent words hold the table of all codes, whose least bucket and one more than whose greatest t has
+pub record HoldsAll (cs : List Code) (t : Tabled) (before after : SlotWords) : Type 0 where
+  pub base : t.base ≡ base_of cs
+  pub top : t.top ≡ top_of cs
   pub enough : top_of cs - base_of cs ≤ length before.slots
-  pub held : Holds (length before.slots) (length before.shares) (table_of cs) after k
+  pub held : Holds (length before.slots) (length before.shares) (table_of cs) after t.used
 
 -- that, or too few words of slots or of shares were lent
-abbrev pub TabledAs : List Code → Tabled → SlotWords → SlotWords → Type 0
-TabledAs cs (Filled b e k) before after = HoldsAll cs b e k before after
-TabledAs cs Short before after =
+abbrev pub TabledAs : List Code → Option Tabled → SlotWords → SlotWords → Type 0
+TabledAs cs (Some t) before after = HoldsAll cs t before after
+TabledAs cs None before after =
     (length before.slots < top_of cs - base_of cs) ⊎ (room (length before.shares) < length (table_of cs).shares)
 
 -- what the build leaves of codes found in a file of len bytes, with the start words of m methods
-abbrev pub Finished : ℕ → ℕ → Built → TableWords → TableWords → Type 0
+abbrev pub Finished : ℕ → ℕ → Result Built Refusal → TableWords → TableWords → Type 0
 Finished len n r before after =
     (m e : ℕ) (cs : List Code) → Triples before.triples n cs → before.starts ≡ padded (length before.starts) (starts_of m cs)
     → GivesBuild (built_from len m (room_of before) (found cs e)) r before after

@@ -1,4 +1,5 @@
 // The code table's build (`parse` of insn_locator.rs): from file and record to start words, triples, slots, shares and the code region.
+// Kept, point 5: the slices of a call are parameters of their own, as C lends them and README lists them. Clauses name them by `table_words`.
 #![tactic(auto)]
 
 ghost use Rattle.std.specs.Prelude.{◌≡◌, List, [], ◌∷◌, ◌+◌, ◌*◌, ◌<◌, ◌≤◌, length};
@@ -8,10 +9,10 @@ ghost use Rattle.code_table.specs.Slots.{base_of, top_of, joined};
 ghost use Rattle.code_table.specs.RegionEnd.{region_end, RegionInside};
 ghost use Rattle.code_table.specs.Build.{build_out};
 ghost use Rattle.code_table.specs.Answer.{built_region, table_words, room_of, GivesBuild};
-ghost use Rattle.code_table.specs.Steps.{most_buckets, Triples, Coded, room, three_words, slot_words, Placeable, PlacedIn};
+ghost use Rattle.code_table.specs.Steps.{most_buckets, Triples, Coded, slot_words, Placeable, PlacedIn};
 ghost use Rattle.code_table.specs.Steps.{Cleared, Spanned, AllPlaced, TabledAs, Finished};
 
-use refusal::{Answer, Refusal};
+use refusal::Refusal;
 use tinydex::DexHeader;
 
 // A slot word of a share is this much above the share's number (`shared` of specs/Slots.antt); below it is a method's, plus one.
@@ -24,42 +25,32 @@ pub struct Region {
     pub end: u32,
 }
 
-// The region, and how many codes were found and how many slots and words of shares are in use; or a refusal.
+// The region, and how many codes were found and how many slots and words of shares are in use.
 #[derive(Clone, Copy)]
-pub enum Built {
-    Done {
-        region: Region,
-        codes: usize,
-        slots: usize,
-        shares: usize,
-    },
-    Refused(Refusal),
-}
-
-// What placing codes leaves: how many words of shares are in use, or a share found no room.
-#[derive(Clone, Copy)]
-enum Placed {
-    Done(usize),
-    Full,
+pub struct Built {
+    pub region: Region,
+    pub codes: usize,
+    pub slots: usize,
+    pub shares: usize,
 }
 
 // The slots and shares of all codes: the least bucket, one more than the greatest, and how many words of shares.
 #[derive(Clone, Copy)]
-enum Tabled {
-    Filled { base: u32, top: u32, used: usize },
-    Short,
+struct Tabled {
+    base: u32,
+    top: u32,
+    used: usize,
 }
 
 // The least first bucket of n codes, 0 without code.
+// Kept: a slice of the codes' words would say n twice, by itself and as a third of its length.
 fn least(triples: &[u32], n: usize) -> u32
     requires { 3 * n ≤ length triples.now }
     ensures { (cs : List Code) → Triples triples.now n cs → result ≡ base_of cs }
 {
     let mut r = words::word_at(triples, 0);
-    let mut i = 1;
-    while i < n {
-        r = words::lesser(r, triples[3 * i]);
-        i += 1;
+    for i in 1..n {
+        r = r.min(triples[3 * i]);
     }
     r
 }
@@ -69,24 +60,15 @@ fn greatest(triples: &[u32], n: usize) -> u32
     requires { Coded triples.now n }
     ensures { (cs : List Code) → Triples triples.now n cs → result ≡ top_of cs }
 {
-    let mut r = 0;
-    let mut i = 0;
-    while i < n {
-        r = words::greater(r, triples[3 * i + 1] + 1);
-        i += 1;
+    let mut r: u32 = 0;
+    for i in 0..n {
+        r = r.max(triples[3 * i + 1] + 1);
     }
     r
 }
 
 // Three words for each share's number of 31 bits (`most_shares` of specs/Build.antt).
 const MOST_SHARES: usize = 6442450944;
-
-// How many of n lent words of shares can be used.
-fn share_room(n: usize) -> usize
-    ensures { result ≡ room n }
-{
-    if n < MOST_SHARES { n } else { MOST_SHARES }
-}
 
 // Three words from a place on.
 fn put_share(w: &mut [u32], at: usize, a: u32, b: u32, c: u32)
@@ -112,70 +94,70 @@ fn add_share(shares: &mut [u32], at: usize, v: u32, method: u32)
     }
 }
 
+// The three words of a code: its first bucket, its last and its method.
+#[derive(Clone, Copy)]
+struct Triple {
+    first: u32,
+    last: u32,
+    method: u32,
+}
+
 // A code in the slots from its first bucket to its last: only the start slot is looked at.
 fn place(
     slots: &mut [u32],
     shares: &mut [u32],
     used: usize,
     base: u32,
-    first: u32,
-    last: u32,
-    method: u32,
-) -> Placed
-    requires { Placeable (slot_words slots.old shares.old) used base (three_words first last method) }
+    code: Triple,
+) -> Option<usize>
+    requires { Placeable (slot_words slots.old shares.old) used base code }
     ensures { let before = slot_words slots.old shares.old in
         let after = slot_words slots.new shares.new in
-        PlacedIn base (three_words first last method) used result before after }
+        PlacedIn base code used result before after }
 {
-    let a = (first - base) as usize;
-    let e = (last - base) as usize + 1;
+    let a = (code.first - base) as usize;
+    let e = (code.last - base) as usize + 1;
     let v = slots[a];
     if v == 0 {
-        words::fill(&mut slots[a..e], method + 1);
-        return Placed::Done(used);
+        slots[a..e].fill(code.method + 1);
+        return Some(used);
     }
-    if share_room(shares.len()) < used + 3 {
-        return Placed::Full;
+    if shares.len().min(MOST_SHARES) < used + 3 {
+        return None;
     }
-    add_share(shares, used, v, method);
-    words::fill(&mut slots[a..e], SHARED + (used / 3) as u32);
-    Placed::Done(used + 3)
+    add_share(shares, used, v, code.method);
+    slots[a..e].fill(SHARED + (used / 3) as u32);
+    Some(used + 3)
 }
 
 // The codes placed one after another, up to the first share without room.
-fn place_all(triples: &[u32], n: usize, base: u32, slots: &mut [u32], shares: &mut [u32]) -> Placed
+fn place_all(
+    triples: &[u32],
+    n: usize,
+    base: u32,
+    slots: &mut [u32],
+    shares: &mut [u32],
+) -> Option<usize>
     requires { Spanned triples.now n base (slot_words slots.old shares.old) }
     ensures { let before = slot_words slots.old shares.old in
         let after = slot_words slots.new shares.new in
         AllPlaced triples.now n base result before after }
 {
     let mut used = 0;
-    let mut i = 0;
-    while i < n {
+    for i in 0..n {
         let at = 3 * i;
-        match place(
-            slots,
-            shares,
-            used,
-            base,
-            triples[at],
-            triples[at + 1],
-            triples[at + 2],
-        ) {
-            Placed::Done(k) => {
-                used = k;
-            }
-            Placed::Full => {
-                return Placed::Full;
-            }
-        }
-        i += 1;
+        let code = Triple {
+            first: triples[at],
+            last: triples[at + 1],
+            method: triples[at + 2],
+        };
+        used = place(slots, shares, used, base, code)?;
     }
-    Placed::Done(used)
+    Some(used)
 }
 
 // The slots and shares of n codes, from their triples.
-fn slot_table(triples: &[u32], n: usize, slots: &mut [u32], shares: &mut [u32]) -> Tabled
+fn slot_table(triples: &[u32], n: usize, slots: &mut [u32], shares: &mut [u32]) -> Option<Tabled>
     requires { Cleared triples.now n (slot_words slots.old shares.old) }
     ensures { let before = slot_words slots.old shares.old in
         let after = slot_words slots.new shares.new in
@@ -183,18 +165,12 @@ fn slot_table(triples: &[u32], n: usize, slots: &mut [u32], shares: &mut [u32]) 
 {
     let base = least(triples, n);
     let top = greatest(triples, n);
-    let span = words::minus(top as usize, base as usize);
+    let span = top.saturating_sub(base) as usize;
     if slots.len() < span {
-        return Tabled::Short;
+        return None;
     }
-    match place_all(triples, n, base, slots, shares) {
-        Placed::Full => Tabled::Short,
-        Placed::Done(used) => Tabled::Filled {
-            base: base,
-            top: top,
-            used: used,
-        },
-    }
+    let used = place_all(triples, n, base, slots, shares)?;
+    Some(Tabled { base, top, used })
 }
 
 // Where the code region of a file of len bytes ends, by one more than the greatest last bucket: with that bucket, or with the file where the
@@ -204,10 +180,7 @@ fn region_end(top: u32, len: usize) -> u32
     ensures { (cs : List Code) → top ≡ top_of cs → result ≡ region_end len cs }
 {
     let end = top * 16;
-    if len < end as usize {
-        return len as u32;
-    }
-    end
+    len.min(end as usize) as u32
 }
 
 // The answer for n codes found in a file of len bytes, whose triples and start words stand in the lent slices.
@@ -218,28 +191,28 @@ fn finish(
     triples: &mut [u32],
     slots: &mut [u32],
     shares: &mut [u32],
-) -> Built
+) -> Result<Built, Refusal>
     requires { Cleared triples.old n (slot_words slots.old shares.old) }
     ensures { let before = table_words starts.old triples.old slots.old shares.old in
         let after = table_words starts.new triples.new slots.new shares.new in
         Finished len n result before after }
 {
     match slot_table(triples, n, slots, shares) {
-        Tabled::Filled { base, top, used } => Built::Done {
+        Some(t) => Ok(Built {
             region: Region {
-                start: base * 16,
-                end: region_end(top, len),
+                start: t.base * 16,
+                end: region_end(t.top, len),
             },
             codes: n,
-            slots: (top - base) as usize,
-            shares: used,
-        },
-        Tabled::Short => {
+            slots: (t.top - t.base) as usize,
+            shares: t.used,
+        }),
+        None => {
             words::clear(starts);
             words::clear(triples);
             words::clear(slots);
             words::clear(shares);
-            Built::Refused(Refusal::LentTooShort)
+            Err(Refusal::LentTooShort)
         }
     }
 }
@@ -252,7 +225,7 @@ pub fn parse(
     triples: &mut [u32],
     slots: &mut [u32],
     shares: &mut [u32],
-) -> Built
+) -> Result<Built, Refusal>
     ensures gives { let before = table_words starts.old triples.old slots.old shares.old in
         let after = table_words starts.new triples.new slots.new shares.new in
         GivesBuild (build_out file.now header (room_of before)) result before after }
@@ -260,8 +233,6 @@ pub fn parse(
 {
     words::clear(slots);
     words::clear(shares);
-    match class_data::codes(file, header, triples, starts) {
-        Answer::Refused(r) => Built::Refused(r),
-        Answer::Done(n) => finish(file.len(), n, starts, triples, slots, shares),
-    }
+    let n = class_data::codes(file, header, triples, starts)?;
+    finish(file.len(), n, starts, triples, slots, shares)
 }

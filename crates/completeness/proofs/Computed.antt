@@ -1,10 +1,10 @@
 -- What the operations answer, by computation: for the worked files, and for files just outside the supposition and at its edge, which show why
 -- each part is supposed.
 -- Assumes nothing.
+use Rattle.std.specs.Prelude.{Some}
 use Prim.Native.Nat.{ℕ}
 use mathlib.Core.Path.{◌≡◌, refl}
 use mathlib.Core.List.{List, [], ◌∷◌, ◌++◌}
-use mathlib.Core.Option.{some}
 use lib.ListN.{get_or, replicate, take}
 use Rattle.words.specs.Padded.{padded, stretch}
 use Rattle.dalvik.specs.Numbers.{le16, le32}
@@ -61,9 +61,9 @@ record Answers : Type 0 where
   pub cut_scan : scan_out (take 76 file) (asked 1 (5 ∷ []) 64 76) (hit_room 9 9) ≡ record { number = 0; hits = hit 64 ∷ hit 72 ∷ [] }
   pub made_up : (scan_out (take 76 file) (asked 1 (5 ∷ []) 64 77) (hit_room 9 9)).number ≡ 12
   -- a method with code twice: its start words are those of the code found last, and the reference in the first is not confirmed
-  pub lost : locate_all (file ++ replicate 32 0) (tables_for 1 twice 0 0 0) (64 ∷ []) ≡ some (0 ∷ [])
+  pub lost : locate_all (file ++ replicate 32 0) (tables_for 1 twice 0 0 0) (64 ∷ []) ≡ Some (0 ∷ [])
   -- two arrays in one block, since their items share bytes: the second code is joined to the first, and either lists both methods
-  pub mixed : listed (table_of close).shares (get_or (table_of close).slots 0 0) ≡ some (7 ∷ 4 ∷ [])
+  pub mixed : listed (table_of close).shares (get_or (table_of close).slots 0 0) ≡ Some (7 ∷ 4 ∷ [])
 
 answers : Answers
 unfolding whole.file whole.header whole.worked shared.file shared.header shared.worked

@@ -1,13 +1,13 @@
 -- Which entries are confirmed: every instruction that names a wanted index, since the walk from its array's start lands on it before the
 -- array's end; and no other, since up to there the walk meets only the array's instructions and payloads.
 -- Assumes nothing.
+use Rattle.std.specs.Prelude.{Some}
 use Prim.Native.Nat.{ℕ, ◌/◌, ◌<◌}
 use native.Mathlib.Omega.{arith}
 use mathlib.Core.Path.{◌≡◌, sym, ◌∙◌}
 use mathlib.Core.Logic.{⊎_elim}
 use mathlib.Core.Bool.{true, false, cond, ◌&&◌}
 use mathlib.Core.List.{List, Memᴰ}
-use mathlib.Core.Option.{some}
 use lib.Dec.{ltb}
 use lib.ListN.{length, get_or, length-map}
 use borrow.Author.Tests.{le-leb, lt-ltb, ltb-true}
@@ -32,7 +32,7 @@ use Rattle.completeness.proofs.Entries.{no_hit, off_at, Tells, an_entry, entry_t
 
 module _ {s : List ℕ} {mapoff classes_off classes methods : ℕ} {codes : List Code} (P : Supposed s mapoff classes_off classes methods codes) where
   -- a slot word that stands for the methods with the code of c lists them
-  pub lists_methods : (c : Code) (shares : List ℕ) (slot : ℕ) → listed shares slot ≡ some (arranged (sharing codes c.off))
+  pub lists_methods : (c : Code) (shares : List ℕ) (slot : ℕ) → listed shares slot ≡ Some (arranged (sharing codes c.off))
       → Lists codes c shares slot
   unfolding list_out
   lists_methods c shares slot e room fits =

@@ -1,11 +1,11 @@
 -- Demand 3: no operation's test refuses, since the walk finds the published codes and the lent buffers suffice; so the outcomes are the tables
 -- of these codes, the scan's hits and locate's answers, of which the other files show what is claimed.
 -- Assumes nothing.
+use Rattle.std.specs.Prelude.{Some}
 use Prim.Native.Nat.{ℕ, ◌-◌, ◌*◌, ◌/◌, ◌≤◌}
 use native.Mathlib.Omega.{arith}
 use mathlib.Core.Path.{◌≡◌, refl, ◌∙◌}
 use mathlib.Core.List.{List, Memᴰ}
-use mathlib.Core.Option.{some}
 use lib.ListN.{length, length-map}
 use borrow.Author.Tests.{le-leb, le-ltb}
 use Rattle.words.proofs.Padded.{length_padded}
@@ -36,7 +36,7 @@ use Rattle.completeness.proofs.Owners.{tables_for, slot_of, Owner, owner}
 use Rattle.completeness.proofs.Entries.{entries_rise, answers}
 use Rattle.completeness.proofs.Confirmed.{lists_methods, Entered, entered, Landed, landed}
 
-pub kind_read : (kind : Kind) → kind_of (kind_number kind) ≡ some kind
+pub kind_read : (kind : Kind) → kind_of (kind_number kind) ≡ Some kind
 unfolding kind_of
 kind_read strings = refl
 kind_read types = refl
@@ -105,7 +105,7 @@ module _ (s : List ℕ) (h : DexHeader) (codes : List Code) (P : Supposed s h.ma
   pub starts_length : 2 * h.methods.size ≤ L.starts → length T.starts ≡ L.starts
   starts_length p = length_padded j (starts_of h.methods.size codes) (omega (arith, starts_of_length h.methods.size codes))
 
-  all_located : locate_all s T (offs hits) ≡ some A
+  all_located : locate_all s T (offs hits) ≡ Some A
   unfolding A
   all_located = (answers P kind wanted i j k).gives
 

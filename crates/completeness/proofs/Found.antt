@@ -1,11 +1,11 @@
 -- The walk finds the codes that the published class data have: each number it reads is the published one, and no test of it refuses.
 -- Assumes nothing.
+use Rattle.std.specs.Prelude.{None, Some}
 use Prim.Native.Nat.{ℕ, ◌+◌, ◌*◌, ◌%◌, ◌≤◌, ◌<◌}
 use native.Mathlib.Omega.{arith}
 use mathlib.Core.Path.{◌≡◌, refl, ap}
 use mathlib.Core.List.Memᴰ
 use mathlib.Core.List.{List, Memᴰ}
-use mathlib.Core.Option.{none, some}
 use lib.ListN.{length}
 use borrow.Author.Tests.{lt-ltb, le-ltb, le-leb, eq-eqb, ne_eqb}
 use Rattle.dalvik.specs.Numbers.{Uleb128s}
@@ -119,12 +119,12 @@ module _ (s : List ℕ) (methods : ℕ) where
         )
 
 -- ---- the map
-entry_found : {s : List ℕ} {n i e : ℕ} → ClassDataEntry s n i e → entry_from n s i ≡ some e
+entry_found : {s : List ℕ} {n i e : ℕ} → ClassDataEntry s n i e → entry_from n s i ≡ Some e
 unfolding entry_from
 entry_found {s} (this {i = i} h q) = rw (le-leb (i + map_item_size) (length s) h, eq-eqb (map_type s i) class_data_type q)
 entry_found {s} (later {i = i} h q r) = rw (le-leb (i + map_item_size) (length s) h, ne_eqb (map_type s i) class_data_type q) (entry_found r)
 
-no_entry_found : {s : List ℕ} {n i : ℕ} → NoClassDataEntry s n i → entry_from n s i ≡ none
+no_entry_found : {s : List ℕ} {n i : ℕ} → NoClassDataEntry s n i → entry_from n s i ≡ None
 unfolding entry_from
 no_entry_found NoClassDataEntry.no_more = refl
 no_entry_found {s} (NoClassDataEntry.one_more {i = i} h q r) =

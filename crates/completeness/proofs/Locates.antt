@@ -1,15 +1,16 @@
 -- On rising entries locate answers as the walk from the method's start does: each entry's answer is that of a list with it alone.
 -- Assumes nothing.
+use Rattle.std.specs.Prelude.{Some}
 use Prim.Native.Nat.{ℕ, ◌≤◌, ◌<◌}
 use native.Mathlib.Omega.{arith}
 use mathlib.Core.Path.{◌≡◌, refl, sym, ◌∙◌}
 use mathlib.Core.Bool.{true, cond}
 use mathlib.Core.List.{List}
-use mathlib.Core.Option.{some}
 use lib.ListN.{length, get_or}
 use borrow.Author.Tests.{le-leb}
 use Rattle.words.proofs.Shared.{some_inj}
-use Rattle.start_words.specs.Starts.{Pair, pair_of}
+use Rattle.start_words.specs.Starts.{pair_of}
+use Rattle.start_words.specs.declared.Pair.{Pair}
 use Rattle.code_item_scan.proofs.Listed.{Above, no_more, one_more}
 use Rattle.insn_locator.specs.Locate.{slot_at, first_of, Tables, locate_all}
 use Rattle.insn_locator.specs.Steps.{climbs}
@@ -26,17 +27,17 @@ above_climbs {b} (one_more {t = t} h o) le = rw (le-leb b t (omega arith)) (abov
 -- an entry's answer
 pub data Answer (s starts shares : List ℕ) (t v : ℕ) : ℕ → Type 0 where
   vacant : {r : ℕ} → v ≡ 0 → r ≡ 0 → Answer s starts shares t v r
-  walked : {r : ℕ} (m : ℕ) → first_of shares v ≡ some m → (p : Pair) → pair_of starts m ≡ some p → r ≡ cond (confirms s p t) v 0
+  walked : {r : ℕ} (m : ℕ) → first_of shares v ≡ Some m → (p : Pair) → pair_of starts m ≡ Some p → r ≡ cond (confirms s p t) v 0
       → Answer s starts shares t v r
 
-as_alone : (s : List ℕ) (T : Tables) (t r : ℕ) → Answerable T.starts T.shares (slot_at T.base T.slots t) → alone_at s T t ≡ some r
+as_alone : (s : List ℕ) (T : Tables) (t r : ℕ) → Answerable T.starts T.shares (slot_at T.base T.slots t) → alone_at s T t ≡ Some r
     → Answer s T.starts T.shares t (slot_at T.base T.slots t) r
 as_alone s T t r (no_method z) e = vacant z (some_inj (sym e ∙ alone_free s T t _ refl z))
 as_alone s T t r (by n m f p i) e = walked m f p i (some_inj (sym e ∙ alone_by s T t _ refl n m f p i))
 
 pub record Located (s : List ℕ) (T : Tables) (ts : List ℕ) : Type 0 where
   pub answers : List ℕ
-  pub gives : locate_all s T ts ≡ some answers
+  pub gives : locate_all s T ts ≡ Some answers
   pub sized : length answers ≡ length ts
   pub each : (k : ℕ) → k < length ts → Answer s T.starts T.shares (get_or ts k 0) (slot_at T.base T.slots (get_or ts k 0)) (get_or answers k 0)
 

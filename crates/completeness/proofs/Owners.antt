@@ -1,13 +1,13 @@
 -- The slot of a bucket of an array names a method whose start words are that array's, and lists the methods of its code item; locate asks
 -- for nothing that isn't there. Zeros after the build's results are never seen.
 -- Assumes nothing.
+use Rattle.std.specs.Prelude.{Some}
 use Prim.Native.Nat.{ℕ, ◌-◌, ◌/◌, ◌≤◌, ◌<◌}
 use native.Mathlib.Omega.{arith}
 use mathlib.Core.Path.{◌≡◌, refl, sym, ◌∙◌}
 use mathlib.Core.Logic.{⊎_elim, ◌≢◌}
 use mathlib.Core.Bool.{true, false, cond, ◌&&◌}
 use mathlib.Core.List.{List, ◌∷◌, Memᴰ}
-use mathlib.Core.Option.{some}
 use lib.Dec.{ltb}
 use borrow.Author.Tests.{le-leb, lt-leb, lt-ltb}
 use Rattle.words.specs.Padded.{padded}
@@ -48,10 +48,10 @@ slot_of T t = slot_at T.base T.slots t
 -- what the slot of a bucket of d's array says
 pub record Owner (T : Tables) (codes : List Code) (d : Code) (t : ℕ) : Type 0 where
   pub m : ℕ
-  pub first : first_of T.shares (slot_of T t) ≡ some m
-  pub array : pair_of T.starts m ≡ some (array_of d)
+  pub first : first_of T.shares (slot_of T t) ≡ Some m
+  pub array : pair_of T.starts m ≡ Some (array_of d)
   pub not_free : slot_of T t ≢ 0
-  pub lists : listed T.shares (slot_of T t) ≡ some (arranged (sharing codes d.off))
+  pub lists : listed T.shares (slot_of T t) ≡ Some (arranged (sharing codes d.off))
 
 -- locate's answer in such a bucket
 pub answer_is : (s : List ℕ) (T : Tables) (codes : List Code) (d : Code) (t r : ℕ) → Owner T codes d t
@@ -99,7 +99,7 @@ module _ {s : List ℕ} {mapoff classes_off classes methods : ℕ} {codes : List
       let own : Sharer codes d.off m = sharer codes d.off m (arranged_mem (sharing codes d.off) (rw e (Memᴰ.head refl))) in
       let below : m < methods = rw own.its at (P.each own.d own.found).below in
       let units : own.d.units ≡ d.units = one_offset own.d d (P.apart own.d d own.found mem) own.there in
-      let A : pair_of (starts_of methods codes) own.d.method ≡ some (array_of own.d) =
+      let A : pair_of (starts_of methods codes) own.d.method ≡ Some (array_of own.d) =
       starts_of_mem methods own.found P.once (P.each own.d own.found).below in
       record {
         m = m;

@@ -1,12 +1,12 @@
 -- A slot word stands for a list of methods: a share's words name its earlier share, whose list they lengthen by one. Joining a method to a
 -- slot word appends it to that list, but for the second, which comes first; words appended after change no list.
 -- Assumes nothing.
+use Rattle.std.specs.Prelude.{Some}
 use Prim.Native.Nat.{ℕ, zero, suc, ◌+◌, ◌-◌, ◌*◌, ◌/◌, ◌≤◌, ◌<◌}
 use native.Mathlib.Omega.{arith}
 use mathlib.Core.Path.{◌≡◌, refl, sym, ◌∙◌, ap}
 use mathlib.Core.Logic.{⊎_elim, ◌≢◌}
 use mathlib.Core.List.{List, [], ◌∷◌, ◌++◌}
-use mathlib.Core.Option.{some}
 use mathlib.Core.Bool.{true, false}
 use lib.Dec.{ltb, eqb}
 use lib.ListN.{length, get_or, length-append, get_or-append}
@@ -58,7 +58,7 @@ unfolding padded
 stands_padded {ws} n r = stands_append (zeros (n - length ws)) r
 
 -- the listing finds it
-chain_finds : {ws : List ℕ} {k : ℕ} {l : List ℕ} → Chained ws k l → (f : ℕ) → k < f → chain f ws k ≡ some l
+chain_finds : {ws : List ℕ} {k : ℕ} {l : List ℕ} → Chained ws k l → (f : ℕ) → k < f → chain f ws k ≡ Some l
 unfolding chain
 chain_finds c zero lt = absurd (omega arith)
 chain_finds {ws} (two {k} le a b e) (suc f) lt = rw (le-leb (3 * k + 3) (length ws) le, eq-eqb (share_at ws k 2) 0 e, a, b)
@@ -66,7 +66,7 @@ chain_finds {ws} (more {k} {p} le a m e h c) (suc f) lt =
     rw (le-leb (3 * k + 3) (length ws) le, e, ne_eqb (p + 1) 0 (omega arith), lt-ltb (p + 1 - 1) k (omega arith), m)
     (ap (snoc_to _) (ap (chain f ws) (omega arith) ∙ chain_finds c f (omega arith)))
 
-pub stands_lists : {ws : List ℕ} {v : ℕ} {l : List ℕ} → Stands ws v l → listed ws v ≡ some l
+pub stands_lists : {ws : List ℕ} {v : ℕ} {l : List ℕ} → Stands ws v l → listed ws v ≡ Some l
 unfolding listed
 stands_lists {ws} {v} (free e) = rw (eq-eqb v 0 e)
 stands_lists {ws} {v} (single {m = m} e lt) =
@@ -84,7 +84,7 @@ chained_inside : {ws : List ℕ} {k : ℕ} {l : List ℕ} → Chained ws k l →
 chained_inside (two le a b e) = le
 chained_inside (more le a m e lt c) = le
 
-pub stands_first : {ws : List ℕ} {v m : ℕ} {l : List ℕ} → Stands ws v (m ∷ l) → first_of ws v ≡ some m
+pub stands_first : {ws : List ℕ} {v m : ℕ} {l : List ℕ} → Stands ws v (m ∷ l) → first_of ws v ≡ Some m
 unfolding first_of
 stands_first {ws} {v} {m} (single e lt) =
     let z : v - 1 ≡ m = omega arith in

@@ -1,12 +1,12 @@
 -- How many entries there can be: a start is a hit once at most, and of the kinds other than strings every second start is tried.
 -- Assumes nothing.
+use Rattle.std.specs.Prelude.{Option, None, Some}
 use Prim.Native.Nat.{ℕ, ◌-◌, ◌≤◌}
 use native.Mathlib.Omega.{arith}
 use mathlib.Core.Path.{◌≡◌, refl, ap, ◌∙◌}
 use mathlib.Core.Logic.{⊎_elim}
 use mathlib.Core.Bool.{true, false}
 use mathlib.Core.List.{List}
-use mathlib.Core.Option.{Option, none, some}
 use lib.ListN.{length}
 use lib.Dec.{eqb}
 use borrow.Author.Tests.{eqb-true, eqb-false}
@@ -23,24 +23,24 @@ words_more number a b h =
     ⊎_elim (λ (e : eqb number 1 ≡ true). rw e (omega arith)) (λ (e : eqb number 1 ≡ false). rw e (omega arith)) (case (eqb number 1))
 
 -- a kind has one number
-one_kind : (x y : Kind) → some x ≡ some y → x ≡ y
+one_kind : (x y : Kind) → Some x ≡ Some y → x ≡ y
 one_kind x y e = cc
 
-no_kind : (y : Kind) → none ≡ some y → ⊥
+no_kind : (y : Kind) → None ≡ Some y → ⊥
 no_kind y e = let z : ◌≡◌ {A = ℕ} 0 1 = cc in omega arith
 
-pub its_number : (number : ℕ) (kind : Kind) → kind_of number ≡ some kind → number ≡ kind_number kind
+pub its_number : (number : ℕ) (kind : Kind) → kind_of number ≡ Some kind → number ≡ kind_number kind
 unfolding kind_of
 its_number number kind =
-    cond_elim Is (eqb number 1) (some strings) _ (λ a. is strings (eqb-true number 1 a))
-    (λ _. cond_elim Is (eqb number 2) (some types) _ (λ a. is types (eqb-true number 2 a))
-    (λ _. cond_elim Is (eqb number 3) (some fields) _ (λ a. is fields (eqb-true number 3 a))
-    (λ _. cond_elim Is (eqb number 4) (some methods) none (λ a. is methods (eqb-true number 4 a)) (λ _ e. absurd (no_kind kind e)))))
+    cond_elim Is (eqb number 1) (Some strings) _ (λ a. is strings (eqb-true number 1 a))
+    (λ _. cond_elim Is (eqb number 2) (Some types) _ (λ a. is types (eqb-true number 2 a))
+    (λ _. cond_elim Is (eqb number 3) (Some fields) _ (λ a. is fields (eqb-true number 3 a))
+    (λ _. cond_elim Is (eqb number 4) (Some methods) None (λ a. is methods (eqb-true number 4 a)) (λ _ e. absurd (no_kind kind e)))))
   where
     Is : Option Kind → Type 0
-    Is o = o ≡ some kind → number ≡ kind_number kind
+    Is o = o ≡ Some kind → number ≡ kind_number kind
 
-    is : (x : Kind) → number ≡ kind_number x → Is (some x)
+    is : (x : Kind) → number ≡ kind_number x → Is (Some x)
     is x q e = q ∙ ap kind_number (one_kind x kind e)
 
 other : (number : ℕ) → eqb number 1 ≡ false → (kind : Kind) → number ≡ kind_number kind → is_strings kind ≡ false
@@ -50,7 +50,7 @@ other number a fields e = refl
 other number a methods e = refl
 
 -- of the kinds other than strings every second start is tried
-pub few_hits : (s wanted : List ℕ) (from to number : ℕ) (kind : Kind) → kind_of number ≡ some kind
+pub few_hits : (s wanted : List ℕ) (from to number : ℕ) (kind : Kind) → kind_of number ≡ Some kind
     → length (hits_of s kind wanted from to) ≤ most_entries number (to - from)
 few_hits s wanted from to number kind e =
     let Q : Sought = sought kind (λ z. is_in z wanted) from to in

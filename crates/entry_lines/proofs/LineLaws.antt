@@ -1,5 +1,6 @@
 -- From a listing and a text to the line of an entry.
 -- Assumes nothing.
+use Rattle.std.specs.Prelude.{Result, Ok, Err}
 use Prim.Native.Nat.{ℕ, zero, suc, ◌+◌, ◌-◌, ◌≤◌, ◌<◌}
 use native.Mathlib.Omega.{arith}
 use mathlib.Core.Path.{◌≡◌, refl, sym, ap, ◌∙◌}
@@ -12,8 +13,6 @@ use borrow.Author.Tests.{eq-eqb, eqb-true, lt-ltb, le-ltb}
 use Rattle.words.specs.Padded.{zeros, padded}
 use Rattle.words.proofs.Shared.{and_left, and_right}
 use Rattle.refusal.specs.declared.Refusal.{Refusal}
-use Rattle.refusal.specs.declared.Answer.{Answer}
-use Rattle.refusal.specs.declared.Answer.TheVariants.{Done, Refused}
 use Rattle.refusal.specs.Refusals.{refusal_number}
 use Rattle.refusal.specs.Outcomes.{Outcome, Gives, refused}
 use Rattle.refusal.proofs.Outcomes.{gives_refused}
@@ -23,33 +22,33 @@ use Rattle.entry_lines.specs.Line.{Entries, line_by, line_out, alike, line_at, f
 use Rattle.entry_lines.specs.Gives.{LineWords, GivesLine, Tries}
 use Rattle.entry_lines.specs.Steps.{RefusedBy}
 
-pub gives_as : {o : Outcome} {r x : Answer} {before after : List ℕ} → r ≡ x → Gives o r before after → Gives o x before after
+pub gives_as : {o : Outcome} {r x : (Result ℕ Refusal)} {before after : List ℕ} → r ≡ x → Gives o r before after → Gives o x before after
 gives_as e g = rw (← e) g
 
 -- the rooms lent are as large as at first
-pub gives_room : (E : Entries) (i : ℕ) {a b a' b' : ℕ} {r : Answer} {before after : List ℕ} → a ≡ a' → b ≡ b'
+pub gives_room : (E : Entries) (i : ℕ) {a b a' b' : ℕ} {r : (Result ℕ Refusal)} {before after : List ℕ} → a ≡ a' → b ≡ b'
     → Gives (line_at E a b i) r before after → Gives (line_at E a' b' i) r before after
 gives_room E i e f g = rw (← e, ← f) g
 
 module _ (o : Outcome) (before after : List ℕ) where
-  pub done_fits : (n : ℕ) → Gives o (Done n) before after → n ≤ length after
+  pub done_fits : (n : ℕ) → Gives o (Ok n) before after → n ≤ length after
   unfolding padded
   done_fits n g =
       let l : length after ≡ length o.list + (length before - length o.list) =
       ap length g.words ∙ simp (length-append, length-replicate) refl in
       omega (arith, g.count)
 
-  done_list : (n : ℕ) → Gives o (Done n) before after → take n after ≡ o.list
+  done_list : (n : ℕ) → Gives o (Ok n) before after → take n after ≡ o.list
   unfolding padded
   done_list n g = ap (take n) g.words ∙ take_at o.list (zeros (length before - length o.list)) n (sym g.count)
 
-  pub line_done : (off idx n room : ℕ) (r : Answer) (text text' : List ℕ) → Gives o (Done n) before after
+  pub line_done : (off idx n room : ℕ) (r : Result ℕ Refusal) (text text' : List ℕ) → Gives o (Ok n) before after
       → Gives (entry_out off idx (take n after) room) r text text' → Gives (line_by off idx o room) r text text'
   line_done off idx n room r text text' g h = rw (eq-eqb o.number 0 (sym g.number), ← done_list n g) h
 
-  pub line_refused : (off idx room : ℕ) (why : Refusal) (text text' : List ℕ) → Gives o (Refused why) before after
+  pub line_refused : (off idx room : ℕ) (why : Refusal) (text text' : List ℕ) → Gives o (Err why) before after
       → text' ≡ zeros (length text)
-      → Gives (line_by off idx o room) (Refused why) text text'
+      → Gives (line_by off idx o room) (Err why) text text'
   line_refused off idx room why text text' g z =
       gives_refused _ text text' why (rw (← g.number, numbered why) refl) z
 
@@ -57,12 +56,12 @@ module _ (o : Outcome) (before after : List ℕ) where
 
 -- what a test shows of a call's answer, and what the call ensures of it
 pub unlike : {r d : Bool} → not r ≡ true → r ≡ d → d ≡ false
-unlike {r = true} e f = absurd (let z : ◌≡◌ {A = ℕ} 0 1 = cc in omega arith)
+unlike {r = true} e f = absurd (cc)
 unlike {r = false} e f = sym f
 
 pub likewise : {r d : Bool} → not r ≡ false → r ≡ d → d ≡ true
 likewise {r = true} e f = sym f
-likewise {r = false} e f = absurd (let z : ◌≡◌ {A = ℕ} 0 1 = cc in omega arith)
+likewise {r = false} e f = absurd (cc)
 
 module _ (offs marks answers : List ℕ) where
   pub alike_marks : alike offs marks answers ≡ true → length marks ≡ length offs
@@ -87,7 +86,7 @@ module _ (E : Entries) (words bytes i : ℕ) where
   unfolding line_at
   line_held e h = rw (e, lt-ltb i (length E.offs) h)
 
-pub line_refusal : (o : Outcome) (why : Refusal) (r : Answer) (before after : LineWords) → o ≡ refused (refusal_number why)
+pub line_refusal : (o : Outcome) (why : Refusal) (r : Result ℕ Refusal) (before after : LineWords) → o ≡ refused (refusal_number why)
     → RefusedBy why r before after → GivesLine o r before after
 line_refusal o why r before after e q =
     rw q.answer (record { line = gives_refused o before.text after.text why e q.no_bytes; cleared = q.no_words })
@@ -109,7 +108,7 @@ module _ (f : ℕ → Outcome) where
       ap (λ (k : ℕ). first_refused f k 0) e
 
   -- the line at i was written
-  pub try_on : (n i m : ℕ) (before after : List ℕ) → i < n → Gives (f i) (Done m) before after
+  pub try_on : (n i m : ℕ) (before after : List ℕ) → i < n → Gives (f i) (Ok m) before after
       → first_refused f (n - i) i ≡ first_refused f n 0
       → first_refused f (n - (i + 1)) (i + 1) ≡ first_refused f n 0
   try_on n i m before after h g e =
@@ -117,7 +116,7 @@ module _ (f : ℕ → Outcome) where
       sym (first_on (n - (i + 1)) i g.number) ∙ ap (λ (k : ℕ). first_refused f k i) (sym s) ∙ e
 
   -- the line at i was refused
-  pub try_refused : (n i : ℕ) (why : Refusal) (before after : List ℕ) → i < n → Gives (f i) (Refused why) before after
+  pub try_refused : (n i : ℕ) (why : Refusal) (before after : List ℕ) → i < n → Gives (f i) (Err why) before after
       → first_refused f (n - i) i ≡ first_refused f n 0 → refusal_number why ≡ first_refused f n 0
   try_refused n i why before after h g e =
       let s : n - i ≡ suc (n - (i + 1)) = omega arith in
@@ -139,7 +138,7 @@ module _ (E : Entries) (words bytes : ℕ) where
   tried_alike e = rw e
 
 -- a refusal of all, from slices as long as at first
-pub tries_refused : {number n : ℕ} (why : Refusal) {r : Answer} {before middle after : LineWords} → refusal_number why ≡ number
+pub tries_refused : {number n : ℕ} (why : Refusal) {r : (Result ℕ Refusal)} {before middle after : LineWords} → refusal_number why ≡ number
     → length middle.text ≡ length before.text → length middle.mids ≡ length before.mids → RefusedBy why r middle after
     → Tries number n r before after
 tries_refused why e t m q =
@@ -154,6 +153,6 @@ tries_refused why e t m q =
 pub tries_done : {number n i : ℕ} {before : LineWords} (middle : LineWords) {after : LineWords} → 0 ≡ number → i ≡ n
     → length middle.text ≡ length before.text → length middle.mids ≡ length before.mids
     → after.text ≡ zeros (length middle.text) → after.mids ≡ zeros (length middle.mids)
-    → Tries number n (Done i) before after
+    → Tries number n (Ok i) before after
 tries_done middle e k t m x y =
     rw (← e) (record { numbered = refl; count = k; no_bytes = x ∙ ap zeros t; no_words = y ∙ ap zeros m })

@@ -1,11 +1,8 @@
 -- SPEC, Worked examples: a field for each example, in that order.
 -- Assumes nothing.
-use Rattle.std.specs.Prelude.{ℕ, ◌+◌, ◌*◌, ◌^◌, ◌≡◌, List, [], ◌∷◌, length, get_or, replicate}
-use Rattle.std.proofs.Math.Option.{none as no_step, some}
-use Rattle.leb128.specs.Leb.{uleb_fast, uleb_len}
+use Rattle.std.specs.Prelude.{ℕ, ◌+◌, ◌*◌, ◌^◌, ◌≡◌, List, [], ◌∷◌, length, get_or, replicate, Some, None, Ok, Err}
+use Rattle.leb128.specs.Leb.{uleb_fast, uleb_len, uleb_of}
 use Rattle.refusal.specs.declared.Refusal.TheVariants.{NumberOutside, NumberTooLong}
-use Rattle.leb128.specs.declared.Uleb.TheVariants.{Number, Refused}
-use Rattle.leb128.specs.declared.Len.TheVariants.{Refused as NoLength}
 use Rattle.string_data.specs.Text.{string_text, found, none}
 use Rattle.dalvik.specs.Ids.{type_descriptor_idx}
 use Rattle.groups.specs.Built.{GroupWords, groups_of}
@@ -17,7 +14,6 @@ use Rattle.slot_listing.specs.Listing.{list_out}
 use Rattle.string_search.specs.Owner.{owner}
 use Rattle.string_search.specs.declared.Owner.TheVariants.{Entry, Absent}
 use Rattle.opcodes.specs.Length.{length_read}
-use Rattle.opcodes.specs.declared.Length.TheVariants.{Units, Nothing}
 use Rattle.code_item_scan.specs.Scan.{Scan, asked, hit_room, scan_out}
 use Rattle.insn_walk.specs.Walk.{step}
 use Rattle.insn_locator.specs.Locate.{locate_out}
@@ -57,13 +53,13 @@ located_by starts = locate_out (0x00 ∷ 0x00 ∷ 0x0e ∷ 0x00 ∷ 0x1a ∷ 0x0
 
 pub record Table : Type 0 where
   -- 80 7f is 16256 in 2
-  pub two_bytes : uleb_fast (0x80 ∷ 0x7f ∷ []) 0 ≡ Number 16256 2
+  pub two_bytes : uleb_fast (0x80 ∷ 0x7f ∷ []) 0 ≡ Ok (uleb_of 16256 2)
   -- ff ff ff ff 0f is 4294967295 in 5; 7f for 0f does not fit, which is told once that byte is there
-  pub greatest : uleb_fast (0xff ∷ 0xff ∷ 0xff ∷ 0xff ∷ 0x0f ∷ []) 0 ≡ Number 4294967295 5
-  pub five_bytes : uleb_fast (0xff ∷ 0xff ∷ 0xff ∷ 0xff ∷ 0x7f ∷ []) 0 ≡ Refused NumberTooLong
-  pub four_of_five : uleb_fast (0xff ∷ 0xff ∷ 0xff ∷ 0xff ∷ []) 0 ≡ Refused NumberOutside
+  pub greatest : uleb_fast (0xff ∷ 0xff ∷ 0xff ∷ 0xff ∷ 0x0f ∷ []) 0 ≡ Ok (uleb_of 4294967295 5)
+  pub five_bytes : uleb_fast (0xff ∷ 0xff ∷ 0xff ∷ 0xff ∷ 0x7f ∷ []) 0 ≡ Err NumberTooLong
+  pub four_of_five : uleb_fast (0xff ∷ 0xff ∷ 0xff ∷ 0xff ∷ []) 0 ≡ Err NumberOutside
   -- 80 80 80 80 80 00 has no length: it is too long
-  pub six_bytes : uleb_len (0x80 ∷ 0x80 ∷ 0x80 ∷ 0x80 ∷ 0x80 ∷ 0x00 ∷ []) 0 ≡ NoLength NumberTooLong
+  pub six_bytes : uleb_len (0x80 ∷ 0x80 ∷ 0x80 ∷ 0x80 ∷ 0x80 ∷ 0x00 ∷ []) 0 ≡ Err NumberTooLong
   -- length ff ff ff ff 0f with a zero after is the empty string; 10 for 0f is refused
   pub longest_length : string_text (0xff ∷ 0xff ∷ 0xff ∷ 0xff ∷ 0x0f ∷ 0x00 ∷ []) 0 ≡ found 5 0
   pub length_overflow : string_text (0xff ∷ 0xff ∷ 0xff ∷ 0xff ∷ 0x10 ∷ 0x00 ∷ []) 0 ≡ none 10
@@ -92,14 +88,14 @@ pub record Table : Type 0 where
   pub shared_code : list_out (table_of four_seven_nine).shares (get_or (table_of four_seven_nine).slots 0 0) 3 ≡ success (7 ∷ 4 ∷ 9 ∷ [])
   -- steps over payloads: a packed switch of one target, whole and cut by a byte; a sparse switch of none; three bytes of array data, which take
   -- two units; array data of the greatest width and size
-  pub packed_switch : step (0x00 ∷ 0x01 ∷ 0x01 ∷ 0x00 ∷ replicate 8 0) 0 ≡ some 12
-  pub packed_switch_cut : step (0x00 ∷ 0x01 ∷ 0x01 ∷ 0x00 ∷ replicate 7 0) 0 ≡ no_step
-  pub sparse_switch : step (0x00 ∷ 0x02 ∷ 0x00 ∷ 0x00 ∷ []) 0 ≡ some 4
-  pub array_data : step (0x00 ∷ 0x03 ∷ 0x01 ∷ 0x00 ∷ 0x03 ∷ 0x00 ∷ 0x00 ∷ 0x00 ∷ replicate 4 0) 0 ≡ some 12
-  pub greatest_data : step (0x00 ∷ 0x03 ∷ replicate 6 0xff) 0 ≡ no_step
+  pub packed_switch : step (0x00 ∷ 0x01 ∷ 0x01 ∷ 0x00 ∷ replicate 8 0) 0 ≡ Some 12
+  pub packed_switch_cut : step (0x00 ∷ 0x01 ∷ 0x01 ∷ 0x00 ∷ replicate 7 0) 0 ≡ None
+  pub sparse_switch : step (0x00 ∷ 0x02 ∷ 0x00 ∷ 0x00 ∷ []) 0 ≡ Some 4
+  pub array_data : step (0x00 ∷ 0x03 ∷ 0x01 ∷ 0x00 ∷ 0x03 ∷ 0x00 ∷ 0x00 ∷ 0x00 ∷ replicate 4 0) 0 ≡ Some 12
+  pub greatest_data : step (0x00 ∷ 0x03 ∷ replicate 6 0xff) 0 ≡ None
   -- 00 04 opens none, nor does 00 with nothing after it
-  pub other_unit : step (0x00 ∷ 0x04 ∷ []) 0 ≡ some 2
-  pub single_byte : step (0x00 ∷ []) 0 ≡ some 2
+  pub other_unit : step (0x00 ∷ 0x04 ∷ []) 0 ≡ Some 2
+  pub single_byte : step (0x00 ∷ []) 0 ≡ Some 2
   -- start words: of two methods the first has code at 48, of four units
   pub two_start_words : starts_of 2 (record { method = 0; off = 48; units = 4 } ∷ []) ≡ 64 ∷ 72 ∷ 0 ∷ 0 ∷ []
   -- an entry before the end of its method is confirmed, though its instruction passes the end; one at the end isn't; half a pair is none
@@ -107,9 +103,9 @@ pub record Table : Type 0 where
   pub at_the_end : located_by (2 ∷ 4 ∷ []) ≡ success (0 ∷ [])
   pub half_a_pair : located_by (2 ∷ []) ≡ refused 15
   -- instruction lengths: an opcode of each, and one without
-  pub return_void : length_read 0x0e ≡ Units 1
-  pub const_string : length_read 0x1a ≡ Units 2
-  pub const_string_jumbo : length_read 0x1b ≡ Units 3
-  pub invoke_polymorphic : length_read 0xfa ≡ Units 4
-  pub const_wide : length_read 0x18 ≡ Units 5
-  pub unused : length_read 0x73 ≡ Nothing
+  pub return_void : length_read 0x0e ≡ Some 1
+  pub const_string : length_read 0x1a ≡ Some 2
+  pub const_string_jumbo : length_read 0x1b ≡ Some 3
+  pub invoke_polymorphic : length_read 0xfa ≡ Some 4
+  pub const_wide : length_read 0x18 ≡ Some 5
+  pub unused : length_read 0x73 ≡ None

@@ -1,11 +1,11 @@
 -- An entry of the finder stands by itself: the words left hold each hit beside its answer, which depends on file, record and offset alone. So the
 -- confirmed entries are the hits with an answer other than 0, and these merge.
 -- Assumes nothing.
+use Rattle.std.specs.Prelude.{Option, None, Some, Result}
 use Prim.Native.Nat.{ℕ, zero, suc, ◌+◌, ◌/◌, ◌<◌}
 use native.Mathlib.Omega.{arith}
 use mathlib.Core.Path.{◌≡◌, refl, sym, ap, ◌∙◌}
 use mathlib.Core.Bool.{cond}
-use mathlib.Core.Option.{Option, none, some}
 use mathlib.Core.List.{List, [], ◌∷◌, map}
 use lib.ListN.{length, get_or}
 use lib.Dec.{eqb}
@@ -28,6 +28,7 @@ use Rattle.completeness.specs.Completeness.{FindWords, Entry, entry_at, call_of}
 use Rattle.findrefs.specs.Find.{Lengths, lengths_of, built_tables, find_out}
 use Rattle.findrefs.specs.Gives.{found_number, found_hits, GivesFind}
 use Rattle.findrefs.specs.Alone.{tables_left, confirmed_from, confirmed, merged, Succeeded, Together, StandAlone}
+use Rattle.refusal.specs.declared.Refusal.{Refusal}
 use Rattle.findrefs.specs.declared.Found.{Found}
 use Rattle.findrefs.proofs.Merged.{entry_for, shown, shown_merged}
 use Rattle.findrefs.proofs.Whole.{Answers, hits_for, hits, whole, find_never_15, find_whole, find_built}
@@ -123,8 +124,8 @@ module _ {s : List ℕ} {h : DexHeader} (law : Answers s h) (kind : ℕ) where
   for_merged : (from to : ℕ) (k : Option Kind) {wanted a b : List ℕ} → Together wanted a b
       → shown law.answer (hits_for s wanted from to k)
       ≡ merged (shown law.answer (hits_for s a from to k)) (shown law.answer (hits_for s b from to k))
-  for_merged from to none t = refl
-  for_merged from to (some kind) t = shown_merged s law.answer kind from to t
+  for_merged from to None t = refl
+  for_merged from to (Some kind) t = shown_merged s law.answer kind from to t
 
   -- the confirmed entries of a call, by the build of another
   confirmed_by : {wanted a : List ℕ} (C : Succeeded s h kind wanted) (A : Succeeded s h kind a)
@@ -142,7 +143,7 @@ module _ {s : List ℕ} {h : DexHeader} (law : Answers s h) (kind : ℕ) where
       let D = build_out s h (lengths_of C.before).build in
       rw (confirmed_by C C, confirmed_by C A, confirmed_by C B) (for_merged D.from D.to (kind_of kind) t)
 
-pub stand_alone : {s : List ℕ} {h : DexHeader} (law : Answers s h) (kind : ℕ) (wanted : List ℕ) (r : Found) (before after : FindWords)
+pub stand_alone : {s : List ℕ} {h : DexHeader} (law : Answers s h) (kind : ℕ) (wanted : List ℕ) (r : Result Found Refusal) (before after : FindWords)
     → GivesFind (find_out s h kind wanted (lengths_of before)) r before after → StandAlone (call_of s h kind wanted) r after
 stand_alone {s} {h} law kind wanted r before after G =
     let C : found_number r ≡ 0 → Succeeded s h kind wanted = λ z. record { before = before; after = after; r = r; gives = G; succeeds = z } in

@@ -1,10 +1,10 @@
 -- Over the tables that the finder passes on each offset of a rising list has the answer that it has alone, and that is one number for file and
 -- record, however much is lent: the tables are those of the one build that there is, with zeros after them.
 -- Assumes nothing.
+use Rattle.std.specs.Prelude.{Option, None, Some}
 use Prim.Native.Nat.{ℕ, ◌/◌}
 use native.Mathlib.Omega.{arith}
 use mathlib.Core.Path.{◌≡◌, refl, sym, ap, ◌∙◌}
-use mathlib.Core.Option.{Option, none, some}
 use mathlib.Core.List.{List}
 use lib.ListN.{length}
 use Rattle.words.proofs.Padded.{padded_full}
@@ -40,8 +40,8 @@ built_left B L = record {
 }
 
 abbrev or_none : Option ℕ → ℕ
-or_none none = 0
-or_none (some a) = a
+or_none None = 0
+or_none (Some a) = a
 
 abbrev answer_in : List ℕ → DexHeader → ℕ → ℕ
 answer_in s h t = or_none (alone_at s (plain (file_build s h)) t)
@@ -50,12 +50,12 @@ module _ (s : List ℕ) (h : DexHeader) (L : Lengths) (p : (build_out s h L.buil
   abbrev B : Build
   B = build_out s h L.build
 
-  its_answer : (t : ℕ) → alone_at s (built_tables B L) t ≡ some (answer_in s h t)
+  its_answer : (t : ℕ) → alone_at s (built_tables B L) t ≡ Some (answer_in s h t)
   its_answer t =
       let A = alone_in s h L.build p t in
-      let e : alone_at s (plain (file_build s h)) t ≡ some A.answer =
+      let e : alone_at s (plain (file_build s h)) t ≡ Some A.answer =
       rw (← build_is s h L.build p) (A.is (plain B) (plain_left B)) in
-      A.is (built_tables B L) (built_left B L) ∙ ap (λ (x : Option ℕ). some (or_none x)) (sym e)
+      A.is (built_tables B L) (built_left B L) ∙ ap (λ (x : Option ℕ). Some (or_none x)) (sym e)
 
 pub answers_alone : (s : List ℕ) (h : DexHeader) → Answers s h
 answers_alone s h = record {

@@ -1,5 +1,6 @@
 -- Each way out of the finder leaves what its outcome says: a refusal's number is never 0, so that the outcome takes the same branch.
 -- Assumes nothing.
+use Rattle.std.specs.Prelude.{Result, Ok, Err}
 use Prim.Native.Nat.{ℕ, ◌/◌}
 use mathlib.Core.Path.{◌≡◌, refl, sym, ap, ◌∙◌}
 use mathlib.Core.Logic.{⊎_elim}
@@ -14,27 +15,21 @@ use Rattle.words.proofs.Shared.{case}
 use Rattle.refusal.proofs.Numbers.{some_number}
 use Rattle.refusal.specs.Outcomes.{Outcome}
 use Rattle.refusal.specs.declared.Refusal.{Refusal}
-use Rattle.refusal.specs.declared.Answer.{Answer}
-use Rattle.refusal.specs.declared.Answer.TheVariants as a
 use Rattle.start_words.specs.Starts.{first_starts}
 use Rattle.start_words.proofs.Starts.{first_padded}
 use Rattle.tinydex.specs.declared.DexHeader.{DexHeader}
 use Rattle.code_table.specs.Build.{Build, build_out}
 use Rattle.code_table.specs.Answer.{TableWords, room_of, GivesBuild}
-use Rattle.code_table.specs.declared.Region.{Region}
 use Rattle.code_table.specs.declared.Built.{Built}
-use Rattle.code_table.specs.declared.Built.TheVariants as b
 use Rattle.code_table.proofs.Named.{starts_length}
 use Rattle.code_item_scan.specs.Scan.{Hit, asked}
-use Rattle.code_item_scan.specs.Answers.{hit_room_of}
-use Rattle.insn_locator.specs.Answers.{tables}
+use Rattle.code_item_scan.specs.Answers.{HitWords, hit_room_of}
+use Rattle.insn_locator.specs.Answers.{tables, LocateWords}
 use Rattle.completeness.specs.Completeness.{FindWords, find_words}
 use Rattle.region_search.specs.Search.{Search, searched, search_out, search_words, GivesSearch}
 use Rattle.findrefs.specs.Find.{Lengths, lengths_of, Find, found, search_of, find_out}
 use Rattle.findrefs.specs.Gives.{GivesFind}
-use Rattle.findrefs.specs.Steps.{four, Cleared, FoundIn}
-use Rattle.findrefs.specs.declared.Found.{Found}
-use Rattle.findrefs.specs.declared.Found.TheVariants as r
+use Rattle.findrefs.specs.Steps.{four, Cleared}
 
 -- ---- an outcome's number is that of the operation that refuses
 pub searched_number : (hits : List Hit) (A : Outcome) → (searched hits A).number ≡ A.number
@@ -46,50 +41,6 @@ pub found_number : (B : Build) (R : Search) → (found B R).number ≡ R.number
 found_number B R =
     ⊎_elim (λ (e : eqb R.number 0 ≡ true). rw e (sym (eqb-true R.number 0 e))) (λ (e : eqb R.number 0 ≡ false). rw e)
     (case (eqb R.number 0))
-
--- ---- the search over a build
-module _ (o : Search) (g : Region) (before after : FindWords) where
-  pub in_found : {q : Answer} (n : ℕ) → q ≡ a.Done n → after.table ≡ before.table
-      → GivesSearch o q (search_words before.hits before.located) (search_words after.hits after.located)
-      → FoundIn o g (r.Done g n) before after
-  in_found {q} n e t G =
-      let S : GivesSearch o (a.Done n) (search_words before.hits before.located) (search_words after.hits after.located) = rw e at G in
-      let z : eqb o.number 0 ≡ true = eq-eqb o.number 0 (sym S.number) in
-      record {
-        number = S.number;
-        region = rw z;
-        count = S.count;
-        starts = rw z (ap (λ (w : TableWords). w.starts) t);
-        triples = rw z (ap (λ (w : TableWords). w.triples) t);
-        slots = rw z (ap (λ (w : TableWords). w.slots) t);
-        shares = rw z (ap (λ (w : TableWords). w.shares) t);
-        offs = S.offs;
-        marks = S.marks;
-        further = S.further;
-        answers = S.answers;
-      }
-
-  pub in_refused : {q : Answer} (x : Refusal) → q ≡ a.Refused x
-      → GivesSearch o q (search_words before.hits before.located) (search_words after.hits after.located)
-      → Cleared (four before.table.starts before.table.triples before.table.slots before.table.shares)
-      (four after.table.starts after.table.triples after.table.slots after.table.shares)
-      → FoundIn o g (r.Refused x) before after
-  in_refused {q} x e G C =
-      let S : GivesSearch o (a.Refused x) (search_words before.hits before.located) (search_words after.hits after.located) = rw e at G in
-      let z : eqb o.number 0 ≡ false = ne_eqb o.number 0 (λ w. some_number x (S.number ∙ w)) in
-      record {
-        number = S.number;
-        region = rw z;
-        count = S.count;
-        starts = rw z C.first;
-        triples = rw z C.second;
-        slots = rw z C.third;
-        shares = rw z C.fourth;
-        offs = S.offs;
-        marks = S.marks;
-        further = S.further;
-        answers = S.answers;
-      }
 
 -- ---- what is cleared is as long as before
 pub record SameRoom (t u : TableWords) : Type 0 where
@@ -121,12 +72,12 @@ module _ (s : List ℕ) (h : DexHeader) (kind : ℕ) (wanted : List ℕ) (before
   find_some e = rw (eq-eqb build_of.number 0 e)
 
   -- the build refused, and the other words were cleared
-  pub find_unbuilt : {q : Built} (x : Refusal) (after : FindWords) → q ≡ b.Refused x → GivesBuild build_of q before.table after.table
+  pub find_unbuilt : {q : Result Built Refusal} (x : Refusal) (after : FindWords) → q ≡ Err x → GivesBuild build_of q before.table after.table
       → Cleared (four before.hits.offs before.hits.marks before.located.further before.located.answers)
       (four after.hits.offs after.hits.marks after.located.further after.located.answers)
-      → GivesFind goal (r.Refused x) before after
+      → GivesFind goal (Err x) before after
   find_unbuilt x after e G C =
-      let B : GivesBuild build_of (b.Refused x) before.table after.table = rw e at G in
+      let B : GivesBuild build_of (Err x) before.table after.table = rw e at G in
       rw (find_none (λ w. some_number x (B.number ∙ w)))
       (record {
         number = B.number;
@@ -143,9 +94,9 @@ module _ (s : List ℕ) (h : DexHeader) (kind : ℕ) (wanted : List ℕ) (before
         answers = C.fourth ∙ sym (padded_none (length before.located.answers));
       })
 
-  -- the build succeeded with the region g and left the table t, and the search over it answers
-  module _ {p : Built} (g : Region) (c n k : ℕ) (t : TableWords) (e : p ≡ b.Done g c n k) (G : GivesBuild build_of p before.table t) where
-    B : GivesBuild build_of (b.Done g c n k) before.table t
+  -- the build succeeded with the region of d and left the table t, and the search over it answers
+  module _ {p : Result Built Refusal} (d : Built) (t : TableWords) (e : p ≡ Ok d) (G : GivesBuild build_of p before.table t) where
+    B : GivesBuild build_of (Ok d) before.table t
     B = rw e at G
 
     abbrev S : Search
@@ -157,53 +108,57 @@ module _ (s : List ℕ) (h : DexHeader) (kind : ℕ) (wanted : List ℕ) (before
         ∙ first_padded h.methods.size build_of.starts (length before.table.starts)
         (starts_length s h (room_of before.table) (sym B.number))
 
-    searched_is : search_out s (asked kind wanted g.start g.end)
-        (tables (g.start / 16) t.slots (first_starts h.methods.size t.starts) t.shares)
+    searched_is : search_out s (asked kind wanted d.region.start d.region.end)
+        (tables (d.region.start / 16) t.slots (first_starts h.methods.size t.starts) t.shares)
         L.hits L.further L.answers ≡ S
     searched_is = rw (B.from, B.to, B.slots, passed_is, B.shares)
 
-    by_number : (r : Found) (after : FindWords) → SameRoom t before.table
-        → FoundIn S g r (find_words t before.hits before.located) after → GivesFind goal r before after
-    by_number r after M F =
-        ⊎_elim
-        (λ (z : eqb S.number 0 ≡ true).
-        rw (find_some (sym B.number), z)
-        (record {
-          number = F.number ∙ eqb-true S.number 0 z;
-          from = ap (λ (x : Region). x.start) (rw z at F.region) ∙ B.from;
-          to = ap (λ (x : Region). x.end) (rw z at F.region) ∙ B.to;
-          count = F.count;
-          starts = (rw z at F.starts) ∙ B.starts;
-          triples = (rw z at F.triples) ∙ B.triples;
-          slots = (rw z at F.slots) ∙ B.slots;
-          shares = (rw z at F.shares) ∙ B.shares;
-          offs = F.offs;
-          marks = F.marks;
-          further = F.further;
-          answers = F.answers;
-        }))
-        (λ (z : eqb S.number 0 ≡ false).
-        rw (find_some (sym B.number), z)
-        (record {
-          number = F.number;
-          from = ap (λ (x : Region). x.start) (rw z at F.region);
-          to = ap (λ (x : Region). x.end) (rw z at F.region);
-          count = F.count;
-          starts = nothing_left (length t.starts) (length before.table.starts) (rw z at F.starts) M.starts;
-          triples = nothing_left (length t.triples) (length before.table.triples) (rw z at F.triples) M.triples;
-          slots = nothing_left (length t.slots) (length before.table.slots) (rw z at F.slots) M.slots;
-          shares = nothing_left (length t.shares) (length before.table.shares) (rw z at F.shares) M.shares;
-          offs = F.offs;
-          marks = F.marks;
-          further = F.further;
-          answers = F.answers;
-        }))
-        (case (eqb S.number 0))
-
-    pub find_built : (r : Found) (after : FindWords) → SameRoom t before.table
-        → FoundIn (search_out s (asked kind wanted g.start g.end)
-        (tables (g.start / 16) t.slots (first_starts h.methods.size t.starts) t.shares)
+    -- the search over it
+    module _ {q : Result ℕ Refusal} (hits : HitWords) (located : LocateWords)
+        (F : GivesSearch (search_out s (asked kind wanted d.region.start d.region.end)
+        (tables (d.region.start / 16) t.slots (first_starts h.methods.size t.starts) t.shares)
         (hit_room_of before.hits) L.further L.answers)
-        g r (find_words t before.hits before.located) after
-        → GivesFind goal r before after
-    find_built r after M F = by_number r after M (rw searched_is at F)
+        q (search_words before.hits before.located) (search_words hits located)) where
+      searched_by : (r : Result ℕ Refusal) → q ≡ r → GivesSearch S r (search_words before.hits before.located) (search_words hits located)
+      searched_by r e = rw (searched_is, e) at F
+
+      pub find_found : (n : ℕ) → q ≡ Ok n → GivesFind goal (Ok (record { region = d.region; hits = n })) before (find_words t hits located)
+      find_found n e =
+          let K = searched_by (Ok n) e in
+          rw (find_some (sym B.number), eq-eqb S.number 0 (sym K.number))
+          (record {
+            number = refl;
+            from = B.from;
+            to = B.to;
+            count = K.count;
+            starts = B.starts;
+            triples = B.triples;
+            slots = B.slots;
+            shares = B.shares;
+            offs = K.offs;
+            marks = K.marks;
+            further = K.further;
+            answers = K.answers;
+          })
+
+      -- it refused, and the tables were cleared
+      pub find_refused : (x : Refusal) (none : TableWords) → q ≡ Err x → SameRoom t before.table
+          → Cleared (four t.starts t.triples t.slots t.shares) (four none.starts none.triples none.slots none.shares)
+          → GivesFind goal (Err x) before (find_words none hits located)
+      find_refused x none e M C =
+          let K = searched_by (Err x) e in
+          rw (find_some (sym B.number), ne_eqb S.number 0 (λ w. some_number x (K.number ∙ w)))
+          (record {
+            number = K.number;
+            from = refl;
+            to = refl;
+            count = K.count;
+            starts = nothing_left (length t.starts) (length before.table.starts) C.first M.starts;
+            triples = nothing_left (length t.triples) (length before.table.triples) C.second M.triples;
+            slots = nothing_left (length t.slots) (length before.table.slots) C.third M.slots;
+            shares = nothing_left (length t.shares) (length before.table.shares) C.fourth M.shares;
+            offs = K.offs;
+            marks = K.marks;
+            further = K.further;
+            answers = K.answers;
+          })

@@ -2,6 +2,7 @@
 -- and locate succeed as demand 3 says of their outcomes; and the words in the lent slices are the outcomes' lists. With slices that are
 -- enough each holds what is written to it, and so the outcome is not 4.
 -- Assumes nothing.
+use Rattle.std.specs.Prelude.{Result}
 use Prim.Native.Nat.{ℕ, ◌*◌, ◌/◌}
 use native.Mathlib.Omega.{arith}
 use mathlib.Core.Path.{◌≡◌, refl, sym, ap, ◌∙◌}
@@ -35,6 +36,7 @@ use Rattle.findrefs.proofs.Laws.{searched_number, found_number}
 use Rattle.region_search.specs.Search.{search_out}
 use Rattle.findrefs.specs.Find.{Lengths, lengths_of, Find, found, search_of, built_tables, find_out}
 use Rattle.findrefs.specs.Gives.{reply_of, GivesFind}
+use Rattle.refusal.specs.declared.Refusal.{Refusal}
 use Rattle.findrefs.specs.declared.Found.{Found}
 
 module _ (s : List ℕ) (h : DexHeader) (kind : Kind) (wanted : List ℕ) (w : FindWords) where
@@ -126,7 +128,7 @@ module _ (s : List ℕ) (h : DexHeader) (kind : Kind) (wanted : List ℕ) (w : F
         (λ z. n (number_scanned p q ∙ (ap (λ (o : Outcome). o.number) a ∙ z))) in
         record { build = T; offs = O.0; marks = O.1; answers = A.0; starts_passed = omega arith; further = A.1 }
 
-    module _ (r : Found) (after : FindWords) (G : GivesFind goal r w after) where
+    module _ (r : Result Found Refusal) (after : FindWords) (G : GivesFind goal r w after) where
       holds : GivesFind (record { number = 0; build = R.build; hits = R.scan.hits; answers = R.located.list }) r w after → Holds R after
       holds H = record {
         shares = H.shares;
@@ -143,7 +145,7 @@ module _ (s : List ℕ) (h : DexHeader) (kind : Kind) (wanted : List ℕ) (w : F
         holds = λ F. holds (rw (all_found F) at G);
       }
 
-pub promised : (s : List ℕ) (h : DexHeader) (number : ℕ) (wanted : List ℕ) (r : Found) (before after : FindWords)
+pub promised : (s : List ℕ) (h : DexHeader) (number : ℕ) (wanted : List ℕ) (r : Result Found Refusal) (before after : FindWords)
     → GivesFind (find_out s h number wanted (lengths_of before)) r before after → Demand3 (call_of s h number wanted) before (reply_of r) after
 unfolding Demand3
 promised s h number wanted r before after G codes P kind e =

@@ -1,11 +1,11 @@
 -- The finder's region is its build's, which lies in the file, or 0 to 0: so no scan of it is refused 12, and neither build nor locate has that number.
 -- Assumes nothing.
+use Rattle.std.specs.Prelude.{Option, None, Some, Result}
 use Prim.Native.Nat.{ℕ}
 use native.Mathlib.Omega.{arith}
 use mathlib.Core.Path.{sym, ◌∙◌}
 use mathlib.Core.Logic.{◌≢◌}
 use mathlib.Core.Bool.{◌&&◌}
-use mathlib.Core.Option.{Option, none, some}
 use mathlib.Core.List.{List, []}
 use lib.ListN.{length}
 use lib.Dec.{leb, eqb}
@@ -25,13 +25,14 @@ use Rattle.region_search.specs.Search.{Search, search_out}
 use Rattle.findrefs.specs.Find.{Lengths, lengths_of, Find, found, search_of, find_out}
 use Rattle.findrefs.specs.Gives.{GivesFind}
 use Rattle.findrefs.specs.Region.{NeverOutside}
+use Rattle.refusal.specs.declared.Refusal.{Refusal}
 use Rattle.findrefs.specs.declared.Found.{Found}
 use Rattle.findrefs.proofs.Laws.{searched_number, found_number}
 
 -- ---- locate
 from_answers : (l : Option (List ℕ)) → (answers_from l).number ≢ 12
-from_answers none = λ q. omega arith
-from_answers (some l) = λ q. omega arith
+from_answers None = λ q. omega arith
+from_answers (Some l) = λ q. omega arith
 
 module _ (s : List ℕ) (T : Tables) (entries : List ℕ) (answers further : ℕ) where
   locate_never_12 : (locate_out s T entries answers further).number ≢ 12
@@ -74,7 +75,7 @@ inside s h kind wanted L =
     })
     (λ _. record { number = never_12 s h L.build; region = I })
 
-pub never_outside : (s : List ℕ) (h : DexHeader) (kind : ℕ) (wanted : List ℕ) (r : Found) (before after : FindWords)
+pub never_outside : (s : List ℕ) (h : DexHeader) (kind : ℕ) (wanted : List ℕ) (r : Result Found Refusal) (before after : FindWords)
     → GivesFind (find_out s h kind wanted (lengths_of before)) r before after → NeverOutside s r
 never_outside s h kind wanted r before after G =
     let I = inside s h kind wanted (lengths_of before) in

@@ -3,12 +3,12 @@
 --     Answers                                 that law
 --     find_never_15, find_whole, find_built   the finder's outcome
 -- Assumes nothing.
+use Rattle.std.specs.Prelude.{Option, None, Some}
 use Prim.Native.Nat.{ℕ, ◌≤◌}
 use native.Mathlib.Omega.{arith}
 use mathlib.Core.Path.{◌≡◌, refl, sym, ◌∙◌}
 use mathlib.Core.Logic.{◌≢◌, ⊎_elim}
 use mathlib.Core.Bool.{true, false, ◌&&◌}
-use mathlib.Core.Option.{Option, none, some}
 use mathlib.Core.List.{List, [], map}
 use lib.ListN.{length}
 use lib.Dec.{leb, eqb}
@@ -60,16 +60,16 @@ all_hits hits = record { number = 0; hits = hits }
 
 -- the hits of a kind, if it is one
 abbrev pub hits_for : List ℕ → List ℕ → ℕ → ℕ → Option Kind → List Hit
-hits_for s wanted from to none = []
-hits_for s wanted from to (some kind) = hits_of s kind wanted from to
+hits_for s wanted from to None = []
+hits_for s wanted from to (Some kind) = hits_of s kind wanted from to
 
 scan_refuses : (hits : List Hit) (n : ℕ) → n ≢ 15 → n ≢ 0 → Ends number_of_scan (all_hits hits) (no_scan n)
 scan_refuses hits n p q = refuses number_of_scan (all_hits hits) (no_scan n) p q
 
 module _ (s : List ℕ) (A : Asked) (R : HitRoom) where
   scans_as : (k : Option Kind) → Ends number_of_scan (all_hits (hits_for s A.wanted A.from A.to k)) (scanned_as s A R k)
-  scans_as none = scan_refuses [] 2 (λ q. omega arith) (λ q. omega arith)
-  scans_as (some kind) =
+  scans_as None = scan_refuses [] 2 (λ q. omega arith) (λ q. omega arith)
+  scans_as (Some kind) =
       let hits : List Hit = hits_of s kind A.wanted A.from A.to in
       cond_elim (Ends number_of_scan (all_hits hits)) (leb A.from A.to && leb A.to (length s)) (scanned R hits) (no_scan 12)
       (λ _. cond_elim (Ends number_of_scan (all_hits hits)) (leb (length hits) R.offs && leb (length hits) R.marks) (all_hits hits) (no_scan 4)
@@ -84,8 +84,8 @@ module _ (s : List ℕ) (A : Asked) (R : HitRoom) where
       (λ _. scan_refuses _ 1 (λ q. omega arith) (λ q. omega arith)) (λ _. scans_as (kind_of A.kind))
 
 hits_rise : (s wanted : List ℕ) (from to : ℕ) (k : Option Kind) → Above from (offs (hits_for s wanted from to k))
-hits_rise s wanted from to none = no_more
-hits_rise s wanted from to (some kind) = hits_above s (sought kind (λ x. is_in x wanted) from to)
+hits_rise s wanted from to None = no_more
+hits_rise s wanted from to (Some kind) = hits_above s (sought kind (λ x. is_in x wanted) from to)
 
 -- ---- locate: refused 1 or 4, or what is said of it with enough words
 abbrev number_of : Outcome → ℕ

@@ -1,30 +1,28 @@
 // The finder, whole (the source's manager): the code table's build, the scan of its region and locate of the scan's list, over lent
 // buffers. What a user is promised, demand 3, is a clause of its contract (crate completeness).
+// Kept, point 1: a kind is asked for by its number, and one that names none is refused 2 in its place (`scan_out`).
+// Kept, point 5: the slices of a call are parameters of their own, as C lends them and README lists them.
 #![tactic(auto)]
 
-ghost use Rattle.std.specs.Prelude.{◌/◌, length};
-ghost use Rattle.start_words.specs.Starts.{first_starts};
 ghost use Rattle.code_table.specs.Answer.{table_words};
-ghost use Rattle.code_item_scan.specs.Scan.{asked};
-ghost use Rattle.code_item_scan.specs.Answers.{hit_words, hit_room_of};
-ghost use Rattle.insn_locator.specs.Answers.{tables, locate_words};
+ghost use Rattle.code_item_scan.specs.Answers.{hit_words};
+ghost use Rattle.insn_locator.specs.Answers.{locate_words};
 ghost use Rattle.completeness.specs.Completeness.{find_words, call_of, Demand3};
-ghost use Rattle.region_search.specs.Search.{search_out};
 ghost use Rattle.findrefs.specs.Find.{lengths_of, find_out};
 ghost use Rattle.findrefs.specs.Gives.{GivesFind, reply_of};
 ghost use Rattle.findrefs.specs.Region.{NeverOutside};
 ghost use Rattle.findrefs.specs.Alone.{StandAlone};
-ghost use Rattle.findrefs.specs.Steps.{four, Cleared, FoundIn};
+ghost use Rattle.findrefs.specs.Steps.{four, Cleared};
 
-use code_table::{Built, Region};
-use refusal::{Answer, Refusal};
+use code_table::Region;
+use refusal::Refusal;
 use tinydex::DexHeader;
 
-// The code region and how many entries the scan found; or a refusal.
+// The code region and how many entries the scan found.
 #[derive(Clone, Copy)]
-pub enum Found {
-    Done { region: Region, hits: usize },
-    Refused(Refusal),
+pub struct Found {
+    pub region: Region,
+    pub hits: usize,
 }
 
 // Four lent slices become zero.
@@ -37,46 +35,6 @@ fn clear_four(a: &mut [u32], b: &mut [u32], c: &mut [u32], d: &mut [u32])
     words::clear(b);
     words::clear(c);
     words::clear(d);
-}
-
-// The search over what a build returned. Where it refuses it clears that too.
-fn found_in(
-    file: &[u8],
-    region: Region,
-    methods: u32,
-    kind: u32,
-    wanted: &[u32],
-    starts: &mut [u32],
-    triples: &mut [u32],
-    slots: &mut [u32],
-    shares: &mut [u32],
-    offs: &mut [u32],
-    marks: &mut [u32],
-    further: &mut [u32],
-    answers: &mut [u32],
-) -> Found
-    ensures { let lent = table_words starts.old triples.old slots.old shares.old in
-        let left = table_words starts.new triples.new slots.new shares.new in
-        let before = find_words lent (hit_words offs.old marks.old) (locate_words further.old answers.old) in
-        let after = find_words left (hit_words offs.new marks.new) (locate_words further.new answers.new) in
-        let A = asked kind wanted.now region.start region.end in
-        let T = tables (region.start / 16) slots.old (first_starts methods starts.old) shares.old in
-        let room = hit_room_of before.hits in
-        let o = search_out file.now A T room (length further.old) (length answers.old) in
-        FoundIn o region result before after }
-{
-    match region_search::search(
-        file, region, methods, kind, wanted, slots, starts, shares, offs, marks, further, answers,
-    ) {
-        Answer::Done(n) => Found::Done {
-            region: region,
-            hits: n,
-        },
-        Answer::Refused(r) => {
-            clear_four(starts, triples, slots, shares);
-            Found::Refused(r)
-        }
-    }
 }
 
 // Every instruction of a kind that names a wanted index. Whatever stood in the lent slices, they hold afterwards: the build's start words,
@@ -97,7 +55,7 @@ pub fn find(
     marks: &mut [u32],
     further: &mut [u32],
     answers: &mut [u32],
-) -> Found
+) -> Result<Found, Refusal>
     ensures gives { let lent = table_words starts.old triples.old slots.old shares.old in
         let left = table_words starts.new triples.new slots.new shares.new in
         let before = find_words lent (hit_words offs.old marks.old) (locate_words further.old answers.old) in
@@ -113,30 +71,32 @@ pub fn find(
         let after = find_words left (hit_words offs.new marks.new) (locate_words further.new answers.new) in
         StandAlone (call_of file.now header kind wanted.now) result after }
 {
-    match code_table::parse(file, header, starts, triples, slots, shares) {
-        Built::Refused(r) => {
+    let built = match code_table::parse(file, header, starts, triples, slots, shares) {
+        Err(r) => {
             clear_four(offs, marks, further, answers);
-            Found::Refused(r)
+            return Err(r);
         }
-        Built::Done {
-            region,
-            codes: _,
-            slots: _,
-            shares: _,
-        } => found_in(
-            file,
-            region,
-            header.methods.size,
-            kind,
-            wanted,
-            starts,
-            triples,
-            slots,
-            shares,
-            offs,
-            marks,
-            further,
-            answers,
-        ),
+        Ok(built) => built,
+    };
+    let region = built.region;
+    match region_search::search(
+        file,
+        region,
+        header.methods.size,
+        kind,
+        wanted,
+        slots,
+        starts,
+        shares,
+        offs,
+        marks,
+        further,
+        answers,
+    ) {
+        Ok(hits) => Ok(Found { region, hits }),
+        Err(r) => {
+            clear_four(starts, triples, slots, shares);
+            Err(r)
+        }
     }
 }

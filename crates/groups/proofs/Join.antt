@@ -1,6 +1,8 @@
 -- Several builds as one operation. The first number that is not 0 is that of the whole; with it nothing is left of any build, and without one
 -- each build's words are its own.
 -- Assumes nothing.
+use Rattle.refusal.specs.declared.Refusal.{Refusal}
+use Rattle.std.specs.Prelude.{Result, Ok}
 use Prim.Native.Nat.{ℕ}
 use mathlib.Core.Path.{◌≡◌, sym, ap, subst, ◌∙◌}
 use mathlib.Core.Bool.{true, false}
@@ -10,8 +12,6 @@ use lib.ListN.{length}
 use lib.Dec.{eqb}
 use borrow.Author.Tests.{eqb-true, eqb-false, eq-eqb, ne_eqb}
 use Rattle.words.proofs.Shared.{case}
-use Rattle.refusal.specs.declared.Answer.{Answer}
-use Rattle.refusal.specs.declared.Answer.TheVariants.{Done}
 use Rattle.refusal.specs.Refusals.{answer_number, answer_count}
 use Rattle.groups.specs.Built.{GroupWords, none, Outcome, Laid, Gives}
 use Rattle.groups.specs.Join.{first_refusal, kept}
@@ -49,15 +49,15 @@ unfolding kept
 kept_none n g d = rw (ne_eqb n 0 d)
 
 -- no build refuses: its words and its count are its own
-pub part_words : {n : ℕ} {o : Outcome} {r : Answer} {before after : GroupWords} → n ≡ 0 → Gives o r before after
+pub part_words : {n : ℕ} {o : Outcome} {r : (Result ℕ Refusal)} {before after : GroupWords} → n ≡ 0 → Gives o r before after
     → Laid (kept n o.groups) before after
 part_words {n} {o} {r} {before} {after} e g = subst (λ (x : GroupWords). Laid x before after) (sym (kept_all n o.groups e)) g.words
 
-pub part_count : {n x : ℕ} {o : Outcome} {r : Answer} {before after : GroupWords} → n ≡ 0 → r ≡ Done x → Gives o r before after
+pub part_count : {n x : ℕ} {o : Outcome} {r : (Result ℕ Refusal)} {before after : GroupWords} → n ≡ 0 → r ≡ Ok x → Gives o r before after
     → x ≡ length (kept n o.groups).ids
 part_count {n} {x} {o} e d g = sym (ap answer_count d) ∙ (g.count ∙ ap (λ (w : GroupWords). length w.ids) (sym (kept_all n o.groups e)))
 
-pub part_done : {x : ℕ} {o : Outcome} {r : Answer} {before after : GroupWords} → r ≡ Done x → Gives o r before after → o.number ≡ 0
+pub part_done : {x : ℕ} {o : Outcome} {r : (Result ℕ Refusal)} {before after : GroupWords} → r ≡ Ok x → Gives o r before after → o.number ≡ 0
 part_done d g = sym g.number ∙ ap answer_number d
 
 -- one of the builds refuses: nothing is left

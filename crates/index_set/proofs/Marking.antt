@@ -2,6 +2,7 @@
 -- (`Collected`). A word that is marked goes from one part of what is to come into the other; at the end the marks join the list.
 --     mark_start, mark_pass, mark_add, mark_full, mark_all, mark_all_full, mark_end
 -- Assumes nothing.
+use Rattle.std.specs.Prelude.{Option, Some, None}
 use Prim.Native.Nat.{ℕ, ◌≤◌, ◌<◌}
 use native.Mathlib.Omega.{arith}
 use mathlib.Core.Path.{◌≡◌, refl, sym, subst, ◌∙◌}
@@ -15,8 +16,6 @@ use Rattle.words.specs.Padded.{zeros}
 use Rattle.words.proofs.Shared.{case, or_right}
 use Rattle.word_set.specs.Sets.{In, SetOf, Joins}
 use Rattle.word_set.specs.Steps.{Matched}
-use Rattle.word_set.specs.declared.Insertion.{Insertion}
-use Rattle.word_set.specs.declared.Insertion.TheVariants.{Held, Full}
 use Rattle.word_set.proofs.Sets.{in_none, in_here, in_cons, in_cases}
 use Rattle.word_set.proofs.Collected.{Collected, collect_start, collect_pass, collect_insert, collect_full, held_length}
 use Rattle.word_set.proofs.Joins.{joins_collected}
@@ -75,7 +74,7 @@ module _ {P : ℕ → Type 0} {room : ℕ} where
 
   module _ {Q Q' : ℕ → Type 0} {n : ℕ} {w : SetWords} (c : Marking P Q room n w) (less : (y : ℕ) → Q' y → Q y) where
     -- nothing joined
-    pub mark_pass : ((y : ℕ) → Q y → Q' y) → {m : ℕ} {after : SetWords} {r : Insertion} → after ≡ w → r ≡ Held n → r ≡ Held m
+    pub mark_pass : ((y : ℕ) → Q y → Q' y) → {m : ℕ} {after : SetWords} {r : (Option ℕ)} → after ≡ w → r ≡ Some n → r ≡ Some m
         → Marking P Q' room m after
     mark_pass same {m} e a h =
         subst (Marking P Q' room m) (sym e)
@@ -85,8 +84,8 @@ module _ {P : ℕ → Type 0} {room : ℕ} where
           few = c.few;
         }
 
-    module _ {x : ℕ} (now : Q x) {after : SetWords} {r : Insertion} where
-      pub mark_add : (m : ℕ) → ((y : ℕ) → Q y → (y ≡ x) ⊎ Q' y) → Added x n w after r → r ≡ Held m → Marking P Q' room m after
+    module _ {x : ℕ} (now : Q x) {after : SetWords} {r : (Option ℕ)} where
+      pub mark_add : (m : ℕ) → ((y : ℕ) → Q y → (y ≡ x) ⊎ Q' y) → Added x n w after r → r ≡ Some m → Marking P Q' room m after
       mark_add m one (marked a s h) e = record {
         collected = collect_pass c.collected
             (λ y q. ⊎_elim (λ (t : is_held after.marks y ≡ true). ⊎_elim (λ (k : is_held w.marks y ≡ true). inl k)
@@ -107,7 +106,7 @@ module _ {P : ℕ → Type 0} {room : ℕ} where
       }
 
   module _ {Q : ℕ → Type 0} {n : ℕ} {w : SetWords} (c : Marking P Q room n w) where
-    pub mark_full : {x : ℕ} (now : Q x) {after : SetWords} {r : Insertion} → Added x n w after r → r ≡ Full → (l : List ℕ) → SetOf P l
+    pub mark_full : {x : ℕ} (now : Q x) {after : SetWords} {r : (Option ℕ)} → Added x n w after r → r ≡ None → (l : List ℕ) → SetOf P l
         → room < length l
     mark_full now {r = r} (marked a s h) e = absurd (let z : ◌≡◌ {A = ℕ} 0 1 = cc in omega arith)
     mark_full {x} now {after} {r} (inserted a i) e = collect_full c.collected (λ y q. q) x (inr now) after.words r i e
@@ -115,8 +114,8 @@ module _ {P : ℕ → Type 0} {room : ℕ} where
   -- the words of a list
   pub mark_all :
       {Q Q' : ℕ → Type 0} {n : ℕ} {w after : SetWords} (c : Marking P Q room n w) (less : (y : ℕ) → Q' y → Q y) {xs : List ℕ}
-      (now : (y : ℕ) → In y xs → Q y) {r : Insertion} (m : ℕ)
-      → ((y : ℕ) → Q y → In y xs ⊎ Q' y) → AddedAll xs n w after r → r ≡ Held m → Marking P Q' room m after
+      (now : (y : ℕ) → In y xs → Q y) {r : (Option ℕ)} (m : ℕ)
+      → ((y : ℕ) → Q y → In y xs ⊎ Q' y) → AddedAll xs n w after r → r ≡ Some m → Marking P Q' room m after
   mark_all {Q} {Q'} c less now m one none e =
       mark_pass c less (λ y q. ⊎_elim (λ (i : In y []). absurd (in_none i)) (λ (k : Q' y). k) (one y q)) refl refl e
   mark_all {Q} {Q'} c less now m one (next {x} {n} {k} {xs} a j) e =
@@ -128,8 +127,8 @@ module _ {P : ℕ → Type 0} {room : ℕ} where
   mark_all c less now m one (stop a) e = absurd (let z : ◌≡◌ {A = ℕ} 0 1 = cc in omega arith)
 
   pub mark_all_full :
-      {Q : ℕ → Type 0} {n : ℕ} {w after : SetWords} (c : Marking P Q room n w) {xs : List ℕ} (now : (y : ℕ) → In y xs → Q y) {r : Insertion}
-      → AddedAll xs n w after r → r ≡ Full → (l : List ℕ) → SetOf P l → room < length l
+      {Q : ℕ → Type 0} {n : ℕ} {w after : SetWords} (c : Marking P Q room n w) {xs : List ℕ} (now : (y : ℕ) → In y xs → Q y) {r : (Option ℕ)}
+      → AddedAll xs n w after r → r ≡ None → (l : List ℕ) → SetOf P l → room < length l
   mark_all_full c now none e = absurd (let z : ◌≡◌ {A = ℕ} 0 1 = cc in omega arith)
   mark_all_full {Q} c now (next {x} {n} {k} {xs} a j) e =
       mark_all_full (mark_add c (λ y q. q) (now x (in_here x xs)) k (λ y q. inr q) a refl) (λ y i. now y (in_cons x i)) j e
@@ -139,14 +138,14 @@ module _ {P : ℕ → Type 0} {room : ℕ} where
   mark_length c = held_length c.collected
 
 -- nothing is to come but what is marked, which joins
-pub mark_end : {P Q : ℕ → Type 0} {n : ℕ} (before : List ℕ) {w : SetWords} {after : List ℕ} {r : Insertion} → Marking P Q (length before) n w
+pub mark_end : {P Q : ℕ → Type 0} {n : ℕ} (before : List ℕ) {w : SetWords} {after : List ℕ} {r : (Option ℕ)} → Marking P Q (length before) n w
     → ((y : ℕ) → Q y → ⊥)
     → Joins (indices w.marks) n w.words after r → Matched P before after r
 mark_end {P} {Q} {n} before {w} c over j =
     let s = indices_set w.marks c.few in
     joins_collected before
     (collect_pass c.collected (λ y i. inl (s.sound y i))
-    (λ y q. ⊎_elim (λ (t : is_held w.marks y ≡ true). s.complete y t) (λ (k : Q y). absurd (over y k)) q) {m = n} {after = w.words} {r = Held n}
+    (λ y q. ⊎_elim (λ (t : is_held w.marks y ≡ true). s.complete y t) (λ (k : Q y). absurd (over y k)) q) {m = n} {after = w.words} {r = Some n}
     refl refl refl) j
 
 -- a table of zeros

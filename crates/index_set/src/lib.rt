@@ -8,8 +8,6 @@ ghost use Rattle.std.specs.Prelude.{◌≡◌, ◌*◌, ◌<◌, length};
 ghost use Rattle.word_set.specs.Sets.{Joins};
 ghost use Rattle.index_set.specs.Bits.{is_held, Adds, held_from, indices};
 
-use word_set::Insertion;
-
 // Whether x is held.
 pub fn holds(bits: &[u64], x: u32) -> bool
     ensures { result ≡ is_held bits.now x }
@@ -34,7 +32,7 @@ pub fn add(bits: &mut [u64], x: u32) -> bool
 }
 
 // The indices of one word join the n words held.
-fn gather_word(bits: &[u64], i: usize, out: &mut [u32], n: usize) -> Insertion
+fn gather_word(bits: &[u64], i: usize, out: &mut [u32], n: usize) -> Option<usize>
     requires { (i < length bits.now) × (i < 67108864) }
     ensures { Joins (held_from 64 bits.now (64 * i)) n out.old out.new result }
 {
@@ -43,35 +41,24 @@ fn gather_word(bits: &[u64], i: usize, out: &mut [u32], n: usize) -> Insertion
     let mut held = n;
     while w != 0 {
         if w % 2 == 1 {
-            let Insertion::Held(m) = word_set::insert(out, held, x as u32) else {
-                return Insertion::Full;
-            };
-            held = m;
+            held = word_set::insert(out, held, x as u32)?;
         }
         w = w / 2;
         x += 1;
     }
-    Insertion::Held(held)
+    Some(held)
 }
 
 // The indices held join the n words held in `out`, one after another.
-pub fn gather(bits: &[u64], out: &mut [u32], n: usize) -> Insertion
+pub fn gather(bits: &[u64], out: &mut [u32], n: usize) -> Option<usize>
     ensures { Joins (indices bits.now) n out.old out.new result }
 {
-    let mut end = bits.len();
-    if 67108864 < end {
-        end = 67108864;
-    }
+    let end = bits.len().min(67108864);
     let mut held = n;
-    let mut i = 0;
-    while i < end {
+    for i in 0..end {
         if bits[i] != 0 {
-            let Insertion::Held(m) = gather_word(bits, i, out, held) else {
-                return Insertion::Full;
-            };
-            held = m;
+            held = gather_word(bits, i, out, held)?;
         }
-        i += 1;
     }
-    Insertion::Held(held)
+    Some(held)
 }

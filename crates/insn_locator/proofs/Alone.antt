@@ -4,13 +4,13 @@
 --     Ready      ready_none, ready_later, ready_on
 --     entries    one_entry; alone_free, alone_by; run_alone; locates_alone, each_alone, known_alone, one_alone; onward_on, onward_turn, onward_first
 -- Assumes nothing.
+use Rattle.std.specs.Prelude.{Option, None, Some}
 use Prim.Native.Nat.{ℕ, zero, suc, ◌≤◌, ◌<◌}
 use native.Mathlib.Omega.{arith}
 use mathlib.Core.Path.{◌≡◌, refl, sym, ◌∙◌, ap}
 use mathlib.Core.Logic.{◌≢◌, ⊎_elim}
 use mathlib.Core.Bool.{Bool, true, false, cond}
 use mathlib.Core.List.{List, [], ◌∷◌, map}
-use mathlib.Core.Option.{Option, none, some}
 use lib.Dec.{ltb, eqb}
 use lib.ListN.{length, get_or, set}
 use lib.Seq.{get_or-set_same, get_or-set_other, set_out}
@@ -18,7 +18,8 @@ use borrow.Author.Tests.{lt-ltb, le-leb, ltb-true, ltb-false, eqb-true, eqb-fals
 use Rattle.words.specs.Padded.{zeros}
 use Rattle.words.proofs.Padded.{get_or_zeros}
 use Rattle.words.proofs.Shared.{case, and_left, and_right, some_inj}
-use Rattle.start_words.specs.Starts.{pair_count, Pair, pair_of}
+use Rattle.start_words.specs.Starts.{pair_count, pair_of}
+use Rattle.start_words.specs.declared.Pair.{Pair}
 use Rattle.insn_walk.specs.Walk.{lands}
 use Rattle.insn_locator.specs.Locate.{Tables, Answered, slot_at, first_of, from_of, before_end, confirmed_by, noted, tried, tried_by, answered_by, answered, answered_at, cons_to, and_then, locate_from, locate_all}
 use Rattle.insn_locator.specs.Steps.{climbs, walks, GoesOn, Ready, ReadyOn, Onward, answer_of}
@@ -59,7 +60,7 @@ module _ (s : List ℕ) (T : Tables) where
   pub ready_later : (t : ℕ) (last : List ℕ) → ReadyOn s T t last last
   ready_later t last low le R m p e u h = R m p e u (omega arith)
 
-  pub ready_on : (m : ℕ) (p : Pair) (t : ℕ) (before after : List ℕ) → pair_of T.starts m ≡ some p → GoesOn s p.start m t before after
+  pub ready_on : (m : ℕ) (p : Pair) (t : ℕ) (before after : List ℕ) → pair_of T.starts m ≡ Some p → GoesOn s p.start m t before after
       → ReadyOn s T t before after
   ready_on m p t before after e G low le R k q f u h =
       ⊎_elim
@@ -91,16 +92,16 @@ from_none s p n m t = ap (λ (x : ℕ). confirmed_by s p (from_of p.start x) t) 
 -- after entries that are not later its answer is the one alone, and the words that the definition notes stay ready
 pub record OneEntry (s : List ℕ) (T : Tables) (t : ℕ) (o alone : Option Answered) : Type 0 where
   pub same : answer_of o ≡ answer_of alone
-  pub ready : (r : Answered) → o ≡ some r → Ready s T t r.last
+  pub ready : (r : Answered) → o ≡ Some r → Ready s T t r.last
 
 module _ (s : List ℕ) (T : Tables) (last : List ℕ) (low t v : ℕ) (le : low ≤ t) (R : Ready s T low last) where
   abbrev nothing : List ℕ
   nothing = zeros (pair_count T.starts)
 
-  no_answer : OneEntry s T t none none
+  no_answer : OneEntry s T t None None
   no_answer = record { same = refl; ready = λ r e. absurd (let z : ◌≡◌ {A = ℕ} 0 1 = cc in omega arith) }
 
-  module _ (m : ℕ) (p : Pair) (e : pair_of T.starts m ≡ some p) where
+  module _ (m : ℕ) (p : Pair) (e : pair_of T.starts m ≡ Some p) where
     abbrev from : ℕ
     from = from_of p.start (get_or last m 0)
 
@@ -114,21 +115,21 @@ module _ (s : List ℕ) (T : Tables) (last : List ℕ) (low t v : ℕ) (le : low
         low le R
     noted_ready false q = ready_later s T t last low le R
 
-    tried_one : OneEntry s T t (some (tried s p last v m t)) (some (tried s p nothing v m t))
+    tried_one : OneEntry s T t (Some (tried s p last v m t)) (Some (tried s p nothing v m t))
     tried_one = record {
-      same = ap (λ (b : Bool). some (cond b v 0)) (from_place s p from t (R m p e t le) ∙ sym (from_none s p (pair_count T.starts) m t));
+      same = ap (λ (b : Bool). Some (cond b v 0)) (from_place s p from t (R m p e t le) ∙ sym (from_none s p (pair_count T.starts) m t));
       ready = λ r f.
           let z : r.last ≡ noted (confirmed_by s p from t) last m t = ap (λ (x : Answered). x.last) (sym (some_inj f)) in
           rw z (noted_ready (confirmed_by s p from t) refl);
     }
 
   pair_by : (m : ℕ) (o : Option Pair) → pair_of T.starts m ≡ o → OneEntry s T t (tried_by s last v m t o) (tried_by s nothing v m t o)
-  pair_by m none e = no_answer
-  pair_by m (some p) e = tried_one m p e
+  pair_by m None e = no_answer
+  pair_by m (Some p) e = tried_one m p e
 
   first_by : (o : Option ℕ) → OneEntry s T t (answered_by s T.starts last v t o) (answered_by s T.starts nothing v t o)
-  first_by none = no_answer
-  first_by (some m) = pair_by m (pair_of T.starts m) refl
+  first_by None = no_answer
+  first_by (Some m) = pair_by m (pair_of T.starts m) refl
 
   pub one_entry : OneEntry s T t (answered s T last t v) (answered s T nothing t v)
   one_entry =
@@ -147,29 +148,29 @@ module _ (s : List ℕ) (T : Tables) (last : List ℕ) (low t v : ℕ) (le : low
 -- ---- its answer as the only one
 
 module _ (s : List ℕ) (T : Tables) (t v : ℕ) (slot : slot_at T.base T.slots t ≡ v) where
-  pub alone_free : v ≡ 0 → alone_at s T t ≡ some 0
+  pub alone_free : v ≡ 0 → alone_at s T t ≡ Some 0
   alone_free e = rw (slot, eq-eqb v 0 e)
 
-  pub alone_by : v ≢ 0 → (m : ℕ) → first_of T.shares v ≡ some m → (p : Pair) → pair_of T.starts m ≡ some p
-      → alone_at s T t ≡ some (cond (confirms s p t) v 0)
+  pub alone_by : v ≢ 0 → (m : ℕ) → first_of T.shares v ≡ Some m → (p : Pair) → pair_of T.starts m ≡ Some p
+      → alone_at s T t ≡ Some (cond (confirms s p t) v 0)
   alone_by n m e p i =
-      rw (slot, ne_eqb v 0 n, e, i) (ap (λ (b : Bool). some (cond b v 0)) (from_none s p (pair_count T.starts) m t))
+      rw (slot, ne_eqb v 0 n, e, i) (ap (λ (b : Bool). Some (cond b v 0)) (from_none s p (pair_count T.starts) m t))
 
 -- ---- the list
 
 abbrev pub together : Option ℕ → Option (List ℕ) → Option (List ℕ)
-together none q = none
-together (some a) q = cons_to a q
+together None q = None
+together (Some a) q = cons_to a q
 
 -- each entry as the only one
 unfoldable pub all_alone : List ℕ → Tables → List ℕ → Option (List ℕ)
-all_alone s T [] = some []
+all_alone s T [] = Some []
 all_alone s T (t ∷ ts) = together (alone_at s T t) (all_alone s T ts)
 
 then_alone : (f : List ℕ → Option (List ℕ)) (o : Option Answered) (a : Option ℕ) (q : Option (List ℕ)) → answer_of o ≡ a
-    → ((r : Answered) → o ≡ some r → f r.last ≡ q) → and_then o f ≡ together a q
-then_alone f none a q e k = rw (← e)
-then_alone f (some r) a q e k = rw (← e) (ap (cons_to r.answer) (k r refl))
+    → ((r : Answered) → o ≡ Some r → f r.last ≡ q) → and_then o f ≡ together a q
+then_alone f None a q e k = rw (← e)
+then_alone f (Some r) a q e k = rw (← e) (ap (cons_to r.answer) (k r refl))
 
 pub run_alone : (s : List ℕ) (T : Tables) (ts last : List ℕ) (low : ℕ) → Ready s T low last → climbs low ts ≡ true
     → locate_from s T last ts ≡ all_alone s T ts
@@ -190,17 +191,17 @@ locates_alone s T ts c = run_alone s T ts (zeros (pair_count T.starts)) 0 (ready
 record First (a : Option ℕ) (q : Option (List ℕ)) (xs : List ℕ) : Type 0 where
   answer : ℕ
   others : List ℕ
-  first : a ≡ some answer
-  rest : q ≡ some others
+  first : a ≡ Some answer
+  rest : q ≡ Some others
   is : xs ≡ answer ∷ others
 
-first_of_list : (a : Option ℕ) (q : Option (List ℕ)) (xs : List ℕ) → together a q ≡ some xs → First a q xs
-first_of_list none q xs e = absurd (let z : ◌≡◌ {A = ℕ} 0 1 = cc in omega arith)
-first_of_list (some a) none xs e = absurd (let z : ◌≡◌ {A = ℕ} 0 1 = cc in omega arith)
-first_of_list (some a) (some ys) xs e = record { answer = a; others = ys; first = refl; rest = refl; is = cc }
+first_of_list : (a : Option ℕ) (q : Option (List ℕ)) (xs : List ℕ) → together a q ≡ Some xs → First a q xs
+first_of_list None q xs e = absurd (let z : ◌≡◌ {A = ℕ} 0 1 = cc in omega arith)
+first_of_list (Some a) None xs e = absurd (let z : ◌≡◌ {A = ℕ} 0 1 = cc in omega arith)
+first_of_list (Some a) (Some ys) xs e = record { answer = a; others = ys; first = refl; rest = refl; is = cc }
 
-pub each_alone : (s : List ℕ) (T : Tables) (ts xs : List ℕ) → all_alone s T ts ≡ some xs → (k : ℕ) → k < length ts
-    → alone_at s T (get_or ts k 0) ≡ some (get_or xs k 0)
+pub each_alone : (s : List ℕ) (T : Tables) (ts xs : List ℕ) → all_alone s T ts ≡ Some xs → (k : ℕ) → k < length ts
+    → alone_at s T (get_or ts k 0) ≡ Some (get_or xs k 0)
 unfolding all_alone
 each_alone s T [] xs e k h = absurd (omega arith)
 each_alone s T (t ∷ ts) xs e zero h =
@@ -211,13 +212,13 @@ each_alone s T (t ∷ ts) xs e (suc k) h =
     rw F.is (each_alone s T ts F.others F.rest k (omega arith))
 
 -- each has a known answer
-pub known_alone : (s : List ℕ) (T : Tables) (f : ℕ → ℕ) → ((t : ℕ) → alone_at s T t ≡ some (f t)) → (ts : List ℕ) → all_alone s T ts ≡ some (map f ts)
+pub known_alone : (s : List ℕ) (T : Tables) (f : ℕ → ℕ) → ((t : ℕ) → alone_at s T t ≡ Some (f t)) → (ts : List ℕ) → all_alone s T ts ≡ Some (map f ts)
 unfolding all_alone
 known_alone s T f e [] = refl
 known_alone s T f e (t ∷ ts) = rw (e t, known_alone s T f e ts)
 
 -- a list with one entry
-pub one_alone : (s : List ℕ) (T : Tables) (t : ℕ) → locate_all s T (t ∷ []) ≡ together (alone_at s T t) (some [])
+pub one_alone : (s : List ℕ) (T : Tables) (t : ℕ) → locate_all s T (t ∷ []) ≡ together (alone_at s T t) (Some [])
 unfolding climbs all_alone
 one_alone s T t = locates_alone s T (t ∷ []) (rw (le-leb 0 t (omega arith)))
 
@@ -231,7 +232,7 @@ module _ (s : List ℕ) (T : Tables) (t : ℕ) (ts last last' : List ℕ) (O : O
     climbs = rest_climbs O.low t ts O.climbs;
   }
 
-  pub onward_turn : (a : ℕ) → some a ≡ answer_of (answered_at s T last t) → locate_from s T last (t ∷ ts) ≡ cons_to a (locate_from s T last' ts)
+  pub onward_turn : (a : ℕ) → Some a ≡ answer_of (answered_at s T last t) → locate_from s T last (t ∷ ts) ≡ cons_to a (locate_from s T last' ts)
   unfolding all_alone
   onward_turn a e =
       let E = one_entry s T last O.low t (slot_at T.base T.slots t) (first_climbs O.low t ts O.climbs) O.ready in

@@ -1,20 +1,21 @@
 -- Over the tables of a build every entry has an answer, the same however many zeros stand after them: a slot word of a build is free or stands for
 -- a first method below the number of methods, and each of these has a pair.
 -- Assumes nothing.
+use Rattle.std.specs.Prelude.{Some}
 use Prim.Native.Nat.{ℕ, ◌+◌, ◌-◌, ◌*◌, ◌/◌, ◌<◌}
 use native.Mathlib.Omega.{arith}
 use mathlib.Core.Path.{◌≡◌, refl, sym, ◌∙◌, ap}
 use mathlib.Core.Logic.{◌≢◌, ◌⊎◌, inl, inr, ⊎_elim}
 use mathlib.Core.Bool.{cond}
 use mathlib.Core.List.{List, [], ◌∷◌}
-use mathlib.Core.Option.{some}
 use lib.Dec.{leb}
 use lib.ListN.{length, get_or}
 use borrow.Author.Tests.{eq-eqb, ne_eqb}
 use Rattle.words.specs.Padded.{padded}
 use Rattle.words.proofs.Padded.{padded_longer, padded_at}
 use Rattle.words.proofs.Shared.{cond_elim}
-use Rattle.start_words.specs.Starts.{Pair, pair, pair_of}
+use Rattle.start_words.specs.Starts.{pair, pair_of}
+use Rattle.start_words.specs.declared.Pair.{Pair}
 use Rattle.tinydex.specs.declared.DexHeader.{DexHeader}
 use Rattle.start_words.proofs.Starts.{pair_there, pair_padded}
 use Rattle.code_table.specs.Slots.{shared}
@@ -30,12 +31,12 @@ use Rattle.insn_locator.proofs.Alone.{confirms, alone_at, alone_free, alone_by}
 
 pub data Answerable (starts shares : List ℕ) (v : ℕ) : Type 0 where
   no_method : v ≡ 0 → Answerable starts shares v
-  by : v ≢ 0 → (m : ℕ) → first_of shares v ≡ some m → (p : Pair) → pair_of starts m ≡ some p → Answerable starts shares v
+  by : v ≢ 0 → (m : ℕ) → first_of shares v ≡ Some m → (p : Pair) → pair_of starts m ≡ Some p → Answerable starts shares v
 
 -- it has an answer, whatever was confirmed before
 pub record HasAnswer (s : List ℕ) (T : Tables) (last : List ℕ) (t v : ℕ) : Type 0 where
   pub r : Answered
-  pub gives : answered s T last t v ≡ some r
+  pub gives : answered s T last t v ≡ Some r
 
 pub has_answer : (s : List ℕ) (T : Tables) (last : List ℕ) (t v : ℕ) → Answerable T.starts T.shares v → HasAnswer s T last t v
 has_answer s T last t v (no_method e) = record { r = record { answer = 0; last = last }; gives = rw (eq-eqb v 0 e) }
@@ -44,7 +45,7 @@ has_answer s T last t v (by n m e p i) = record { r = tried s p last v m t; give
 -- and so has each of a list, in any order
 pub record HasAnswers (s : List ℕ) (T : Tables) (last ts : List ℕ) : Type 0 where
   pub answers : List ℕ
-  pub gives : locate_from s T last ts ≡ some answers
+  pub gives : locate_from s T last ts ≡ Some answers
 
 pub has_answers : (s : List ℕ) (T : Tables) → ((t : ℕ) → Answerable T.starts T.shares (slot_at T.base T.slots t))
     → (ts last : List ℕ) → HasAnswers s T last ts
@@ -62,11 +63,11 @@ pub record Holder (starts shares : List ℕ) (v : ℕ) : Type 0 where
   pub m : ℕ
   pub p : Pair
   pub some_slot : v ≢ 0
-  pub first : (n : ℕ) → first_of (padded n shares) v ≡ some m
-  pub its_pair : (n : ℕ) → pair_of (padded n starts) m ≡ some p
+  pub first : (n : ℕ) → first_of (padded n shares) v ≡ Some m
+  pub its_pair : (n : ℕ) → pair_of (padded n starts) m ≡ Some p
 
 module _ (methods : ℕ) (starts shares : List ℕ) (v : ℕ) (two-each : length starts ≡ 2 * methods) where
-  held_by : (m : ℕ) → m < methods → v ≢ 0 → ((n : ℕ) → first_of (padded n shares) v ≡ some m) → Holder starts shares v
+  held_by : (m : ℕ) → m < methods → v ≢ 0 → ((n : ℕ) → first_of (padded n shares) v ≡ Some m) → Holder starts shares v
   held_by m h n F = record {
     m = m;
     p = pair (get_or starts (2 * m) 0) (get_or starts (2 * m + 1) 0);
@@ -81,7 +82,7 @@ module _ (methods : ℕ) (starts shares : List ℕ) (v : ℕ) (two-each : length
   held (share a b c) =
       inr
       (held_by (get_or shares (3 * (v - shared)) 0) c (λ z. omega arith)
-      (λ n. sym (first_shared (padded n shares) v a (omega (arith, padded_longer n shares))) ∙ ap some (padded_at n shares (3 * (v - shared)))))
+      (λ n. sym (first_shared (padded n shares) v a (omega (arith, padded_longer n shares))) ∙ ap Some (padded_at n shares (3 * (v - shared)))))
 
 slot_padded : (base n : ℕ) (slots : List ℕ) (t : ℕ) → slot_at base (padded n slots) t ≡ slot_at base slots t
 unfolding slot_at
@@ -117,7 +118,7 @@ module _ (s : List ℕ) (h : DexHeader) (room : Room) (succeeds : (build_out s h
   -- its answer alone is one number, whichever words of the build are passed on
   pub record AloneIn : Type 0 where
     pub answer : ℕ
-    pub is : (T : Tables) → LeftBy B T → alone_at s T t ≡ some answer
+    pub is : (T : Tables) → LeftBy B T → alone_at s T t ≡ Some answer
 
   pub alone_in : AloneIn
   alone_in =

@@ -1,12 +1,13 @@
 -- The clauses of locate's contract: what it gives is the list's outcome, and that of a list which does not fall is made of each entry's alone. Over a
 -- build's tables every entry has an answer.
 -- Assumes nothing.
+use Rattle.refusal.specs.declared.Refusal.{Refusal}
+use Rattle.std.specs.Prelude.{Result, Option, None, Some}
 use Prim.Native.Nat.{ℕ, ◌≤◌}
 use native.Mathlib.Omega.{arith}
 use mathlib.Core.Path.{◌≡◌, refl, sym, ◌∙◌, ap}
 use mathlib.Core.Bool.{true, false, ◌&&◌}
 use mathlib.Core.List.{List, [], ◌∷◌, map}
-use mathlib.Core.Option.{Option, none, some}
 use lib.Dec.{leb}
 use lib.ListN.{length, get_or}
 use borrow.Author.Tests.{le-leb}
@@ -14,7 +15,6 @@ use Rattle.words.proofs.Padded.{padded_at}
 use Rattle.words.proofs.Shared.{cond_elim}
 use Rattle.refusal.specs.Refusals.{is_too_large}
 use Rattle.refusal.specs.Outcomes.{Outcome, refused, success}
-use Rattle.refusal.specs.declared.Answer.{Answer}
 use Rattle.start_words.specs.Starts.{pair_count}
 use Rattle.code_table.proofs.Named.{build_small}
 use Rattle.insn_locator.specs.Locate.{Tables, locate_all, answers_from, locate_out}
@@ -30,7 +30,7 @@ use Rattle.insn_locator.proofs.Built.{has_answers, all_answerable}
 record Succeeded (s : List ℕ) (T : Tables) (entries : List ℕ) (o : Outcome) : Type 0 where
   list : List ℕ
   small : is_too_large (length s) ≡ false
-  all : locate_all s T entries ≡ some list
+  all : locate_all s T entries ≡ Some list
   is : o ≡ success list
 
 module _ (s : List ℕ) (T : Tables) (entries : List ℕ) where
@@ -38,8 +38,8 @@ module _ (s : List ℕ) (T : Tables) (entries : List ℕ) where
   Succeeds o = o.number ≡ 0 → Succeeded s T entries o
 
   answers_by : is_too_large (length s) ≡ false → (q : Option (List ℕ)) → locate_all s T entries ≡ q → Succeeds (answers_from q)
-  answers_by small none e z = absurd (omega arith)
-  answers_by small (some xs) e z = record { list = xs; small = small; all = e; is = refl }
+  answers_by small None e z = absurd (omega arith)
+  answers_by small (Some xs) e z = record { list = xs; small = small; all = e; is = refl }
 
   succeeded : (room further : ℕ) → Succeeds (locate_out s T entries room further)
   unfolding locate_out
@@ -55,22 +55,22 @@ pub record Fits (s : List ℕ) (T : Tables) (entries : List ℕ) (room further :
   pub pairs : pair_count T.starts ≤ further
 
 located_some : {s : List ℕ} {T : Tables} {entries : List ℕ} {room further : ℕ} (xs : List ℕ) → Fits s T entries room further
-    → locate_all s T entries ≡ some xs → locate_out s T entries room further ≡ success xs
+    → locate_all s T entries ≡ Some xs → locate_out s T entries room further ≡ success xs
 unfolding locate_out
 located_some {s} {T} {entries} {room} {further} xs F e =
     rw (F.small, le-leb (length entries) room F.answers, le-leb (pair_count T.starts) further F.pairs, e)
 
 -- a list that does not fall, each entry with a known answer
 pub located_known : {s : List ℕ} {T : Tables} {ts : List ℕ} {room further : ℕ} (f : ℕ → ℕ) → Fits s T ts room further
-    → ((t : ℕ) → alone_at s T t ≡ some (f t)) → climbs 0 ts ≡ true → locate_out s T ts room further ≡ success (map f ts)
+    → ((t : ℕ) → alone_at s T t ≡ Some (f t)) → climbs 0 ts ≡ true → locate_out s T ts room further ≡ success (map f ts)
 located_known {s} {T} {ts} f F e c = located_some (map f ts) F (locates_alone s T ts c ∙ known_alone s T f e ts)
 
 -- ---- one entry alone
 
-out_alone : (s : List ℕ) (T : Tables) (t a : ℕ) → is_too_large (length s) ≡ false → alone_at s T t ≡ some a → alone_out s T t ≡ success (a ∷ [])
+out_alone : (s : List ℕ) (T : Tables) (t a : ℕ) → is_too_large (length s) ≡ false → alone_at s T t ≡ Some a → alone_out s T t ≡ success (a ∷ [])
 out_alone s T t a small e =
     located_some (a ∷ []) (record { small = small; answers = omega arith; pairs = omega arith })
-    (one_alone s T t ∙ ap (λ (x : Option ℕ). together x (some [])) e)
+    (one_alone s T t ∙ ap (λ (x : Option ℕ). together x (Some [])) e)
 
 -- ---- over the tables of a build
 
@@ -85,7 +85,7 @@ returned_succeeds s T entries room further R enough known =
 
 -- ---- the clauses
 
-module _ (s : List ℕ) (T : Tables) (entries : List ℕ) (r : Answer) (before after : LocateWords) where
+module _ (s : List ℕ) (T : Tables) (entries : List ℕ) (r : Result ℕ Refusal) (before after : LocateWords) where
   abbrev o : Outcome
   o = locate_out s T entries (length before.answers) (length before.further)
 

@@ -1,34 +1,20 @@
 -- Laws of a list that does not fall: it climbs by one entry at a time, and so each entry is at least as large as all before it.
 -- Assumes nothing.
-use Prim.Native.Nat.{ℕ, suc, ◌+◌, ◌≤◌, ◌<◌}
-use native.Mathlib.Numerals.{add-one}
+use Prim.Native.Nat.{ℕ, suc, ◌≤◌, ◌<◌}
 use native.Mathlib.Omega.{arith}
 use mathlib.Core.Path.{◌≡◌, refl}
-use mathlib.Core.Bool.{true, false}
+use mathlib.Core.Bool.{Bool, true, false}
 use mathlib.Core.List.{List, [], ◌∷◌}
 use lib.Dec.{leb}
-use lib.ListN.{length, get_or, drop, drop_of_length-le}
-use lib.Seq.{drop-cons}
-use borrow.Author.Tests.{le-leb, lt-leb, leb-true}
+use lib.ListN.{length, get_or}
+use borrow.Author.Tests.{le-leb, leb-true}
+use Rattle.std.specs.Prelude.{Some}
+use Rattle.std.specs.List.{IsAllAdjacentAnswer}
+use Rattle.std.specs.Ordering.{is_some_and, is_le, nat_cmp}
+use Rattle.std.proofs.lemmas.List.Sorted.{non_decreasing_from_is_sorted}
 use Rattle.words.proofs.Shared.{and_left, and_right}
 use Rattle.insn_locator.specs.Alone.{Nondecreasing}
 use Rattle.insn_locator.specs.Steps.{climbs}
-
--- ---- the entries from i on, for a loop
-
-module _ (ts : List ℕ) (i low : ℕ) where
-  pub climbs_end : length ts ≤ i → true ≡ climbs low (drop i ts)
-  unfolding climbs
-  climbs_end h = rw (drop_of_length-le ts h)
-
-  module _ (left : i < length ts) where
-    pub climbs_falls : get_or ts i 0 < low → false ≡ climbs low (drop i ts)
-    unfolding climbs
-    climbs_falls h = rw (drop-cons ts i 0 left, lt-leb low (get_or ts i 0) h)
-
-    pub climbs_again : low ≤ get_or ts i 0 → climbs (get_or ts i 0) (drop (i + 1) ts) ≡ climbs low (drop i ts)
-    unfolding climbs
-    climbs_again h = rw (add-one i, drop-cons ts i 0 left, le-leb low (get_or ts i 0) h)
 
 -- ---- the first entry
 
@@ -54,3 +40,10 @@ climbs_from b (t ∷ ts) F N =
 
 pub climbs_all : (ts : List ℕ) → Nondecreasing ts → climbs 0 ts ≡ true
 climbs_all ts N = climbs_from 0 ts (λ i h. omega arith) N
+
+-- ---- a list that is found to be sorted
+
+pub climbs_sorted : (ts : List ℕ) (r : Bool) → IsAllAdjacentAnswer (λ x y b. is_some_and is_le (Some (nat_cmp x y)) ≡ b) ts r → r ≡ true
+    → climbs 0 ts ≡ true
+climbs_sorted ts true h e = climbs_all ts (λ i j a l. non_decreasing_from_is_sorted ts true h i j 0 (omega arith) l)
+climbs_sorted ts false h e = absurd (let z : ◌≡◌ {A = ℕ} 0 1 = cc in omega arith)

@@ -1,7 +1,7 @@
 -- Laws of an offset's slot and of the first method that a slot word stands for, one for each way out of their definitions.
 -- Assumes nothing.
+use Rattle.std.specs.Prelude.{None, Some}
 use mathlib.Core.Path.{◌≡◌}
-use mathlib.Core.Option.{none, some}
 use mathlib.Core.List.{List}
 use Prim.Native.Nat.{ℕ, ◌+◌, ◌-◌, ◌*◌, ◌/◌, ◌≤◌, ◌<◌}
 use native.Mathlib.Nat.{add-zero}
@@ -20,14 +20,14 @@ module _ (base : ℕ) (slots : List ℕ) (t : ℕ) where
   slot_from h = simp (le-leb base (t / 16) h)
 
 module _ (ws : List ℕ) (v : ℕ) where
-  pub first_single : v < shared → some (v - 1) ≡ first_of ws v
+  pub first_single : v < shared → Some (v - 1) ≡ first_of ws v
   unfolding first_of
   first_single h = simp (lt-ltb v shared h)
 
-  pub first_outside : shared ≤ v → length ws < 3 * (v - shared) + 3 → none ≡ first_of ws v
+  pub first_outside : shared ≤ v → length ws < 3 * (v - shared) + 3 → None ≡ first_of ws v
   unfolding first_of
   first_outside h k = simp (le-ltb v shared h, lt-leb (3 * (v - shared) + 3) (length ws) k)
 
-  pub first_shared : shared ≤ v → 3 * (v - shared) + 3 ≤ length ws → some (get_or ws (3 * (v - shared)) 0) ≡ first_of ws v
+  pub first_shared : shared ≤ v → 3 * (v - shared) + 3 ≤ length ws → Some (get_or ws (3 * (v - shared)) 0) ≡ first_of ws v
   unfolding first_of
   first_shared h k = simp (le-ltb v shared h, le-leb (3 * (v - shared) + 3) (length ws) k, add-zero)

@@ -1,9 +1,10 @@
 -- Laws of the operation: the refusals in their order, and a run over all entries, which has as many answers as there are entries.
 -- Assumes nothing.
+use Rattle.std.specs.Prelude.{Option, None, Some}
+use Rattle.std.specs.Option.{is_some}
 use mathlib.Core.Path.{◌≡◌, refl, ap, sym, ◌∙◌}
 use mathlib.Core.Bool.{true, false}
 use mathlib.Core.List.{List, [], ◌∷◌}
-use mathlib.Core.Option.{Option, none, some}
 use Prim.Native.Nat.{ℕ, zero, suc, ◌≤◌, ◌<◌}
 use native.Mathlib.Omega.{arith}
 use lib.ListN.{length, take}
@@ -15,7 +16,15 @@ use Rattle.refusal.specs.Refusals.{is_too_large}
 use Rattle.refusal.specs.Outcomes.{refused, success}
 use Rattle.start_words.specs.Starts.{pair_count}
 use Rattle.insn_locator.specs.Locate.{Tables, Answered, slot_at, answered, cons_to, and_then, locate_from, locate_all, answers_from, locate_out}
-use Rattle.insn_locator.specs.Steps.{stored}
+use Rattle.insn_locator.specs.Steps.{stored, ran_to}
+
+pub ran_none : (r : Option (Unit {0})) (out : List ℕ) → is_some r ≡ false → ran_to r out ≡ None
+ran_none None out e = refl
+ran_none (Some u) out e = absurd (let z : ◌≡◌ {A = ℕ} 0 1 = cc in omega arith)
+
+pub ran_some : (r : Option (Unit {0})) (out : List ℕ) → is_some r ≡ true → ran_to r out ≡ Some out
+ran_some None out e = absurd (let z : ◌≡◌ {A = ℕ} 0 1 = cc in omega arith)
+ran_some (Some u) out e = refl
 
 pub take_zeros : (n k : ℕ) → n ≤ k → take n (zeros k) ≡ zeros n
 take_zeros zero k h = refl
@@ -24,18 +33,18 @@ take_zeros (suc n) (suc k) h = ap (λ (l : List ℕ). 0 ∷ l) (take_zeros n k (
 
 -- ---- there are as many answers as entries
 
-cons_length : (a n : ℕ) (q : Option (List ℕ)) (xs : List ℕ) → ((ys : List ℕ) → q ≡ some ys → length ys ≡ n) → cons_to a q ≡ some xs → length xs ≡ suc n
-cons_length a n none xs h e = absurd (let z : ◌≡◌ {A = ℕ} 0 1 = cc in omega arith)
-cons_length a n (some ys) xs h e =
+cons_length : (a n : ℕ) (q : Option (List ℕ)) (xs : List ℕ) → ((ys : List ℕ) → q ≡ Some ys → length ys ≡ n) → cons_to a q ≡ Some xs → length xs ≡ suc n
+cons_length a n None xs h e = absurd (let z : ◌≡◌ {A = ℕ} 0 1 = cc in omega arith)
+cons_length a n (Some ys) xs h e =
     let z : a ∷ ys ≡ xs = cc in
     sym (ap length z) ∙ ap suc (h ys refl)
 
-then_length : (n : ℕ) (o : Option Answered) (f : List ℕ → Option (List ℕ)) (xs : List ℕ) → ((l ys : List ℕ) → f l ≡ some ys → length ys ≡ n)
-    → and_then o f ≡ some xs → length xs ≡ suc n
-then_length n none f xs h e = absurd (let z : ◌≡◌ {A = ℕ} 0 1 = cc in omega arith)
-then_length n (some r) f xs h e = cons_length r.answer n (f r.last) xs (h r.last) e
+then_length : (n : ℕ) (o : Option Answered) (f : List ℕ → Option (List ℕ)) (xs : List ℕ) → ((l ys : List ℕ) → f l ≡ Some ys → length ys ≡ n)
+    → and_then o f ≡ Some xs → length xs ≡ suc n
+then_length n None f xs h e = absurd (let z : ◌≡◌ {A = ℕ} 0 1 = cc in omega arith)
+then_length n (Some r) f xs h e = cons_length r.answer n (f r.last) xs (h r.last) e
 
-pub answers_length : (s : List ℕ) (T : Tables) (ts last xs : List ℕ) → locate_from s T last ts ≡ some xs → length xs ≡ length ts
+pub answers_length : (s : List ℕ) (T : Tables) (ts last xs : List ℕ) → locate_from s T last ts ≡ Some xs → length xs ≡ length ts
 unfolding locate_from
 answers_length s T [] last xs e =
     let z : [] ≡ xs = cc in
@@ -65,12 +74,12 @@ module _ (s : List ℕ) (T : Tables) (entries : List ℕ) (room further : ℕ) w
         unfolding locate_out locate_all
         locate_run q e = rw (fits, le-leb (length entries) room enough, le-leb (pair_count T.starts) further known, ← none_yet, e)
 
-        fault_by : (out : List ℕ) (q : Option (List ℕ)) → locate_from s T last entries ≡ q → none ≡ stored out 0 q
+        fault_by : (out : List ℕ) (q : Option (List ℕ)) → locate_from s T last entries ≡ q → None ≡ stored out 0 q
             → locate_out s T entries room further ≡ refused 15
-        fault_by out none e p = locate_run none e
-        fault_by out (some xs) e p = absurd (let z : ◌≡◌ {A = ℕ} 0 1 = cc in omega arith)
+        fault_by out None e p = locate_run None e
+        fault_by out (Some xs) e p = absurd (let z : ◌≡◌ {A = ℕ} 0 1 = cc in omega arith)
 
-        pub locate_fault : (out : List ℕ) → none ≡ stored out 0 (locate_from s T last entries) → locate_out s T entries room further ≡ refused 15
+        pub locate_fault : (out : List ℕ) → None ≡ stored out 0 (locate_from s T last entries) → locate_out s T entries room further ≡ refused 15
         locate_fault out p = fault_by out (locate_from s T last entries) refl p
 
         -- the answers, as the run has stored them
@@ -80,18 +89,18 @@ module _ (s : List ℕ) (T : Tables) (entries : List ℕ) (room further : ℕ) w
           pub count : length list ≡ length entries
           pub words : out' ≡ padded room list
 
-        done_by : (out out' : List ℕ) → out ≡ zeros room → (q : Option (List ℕ)) → locate_from s T last entries ≡ q → some out' ≡ stored out 0 q
+        done_by : (out out' : List ℕ) → out ≡ zeros room → (q : Option (List ℕ)) → locate_from s T last entries ≡ q → Some out' ≡ stored out 0 q
             → Ran out'
-        done_by out out' z none e p = absurd (let w : ◌≡◌ {A = ℕ} 0 1 = cc in omega arith)
-        done_by out out' z (some xs) e p =
+        done_by out out' z None e p = absurd (let w : ◌≡◌ {A = ℕ} 0 1 = cc in omega arith)
+        done_by out out' z (Some xs) e p =
             let k : length xs ≡ length entries = answers_length s T entries last xs e in
             let w : out' ≡ sets out 0 xs = cc in
             record {
               list = xs;
-              outcome = locate_run (some xs) e;
+              outcome = locate_run (Some xs) e;
               count = k;
               words = w ∙ sets_zeros room xs z (omega arith);
             }
 
-        pub locate_done : (out out' : List ℕ) → out ≡ zeros room → some out' ≡ stored out 0 (locate_from s T last entries) → Ran out'
+        pub locate_done : (out out' : List ℕ) → out ≡ zeros room → Some out' ≡ stored out 0 (locate_from s T last entries) → Ran out'
         locate_done out out' z p = done_by out out' z (locate_from s T last entries) refl p

@@ -1,10 +1,10 @@
 -- An entry stands by itself (SPEC, Locate): what locate promises over the tables that a build left, and of a list that does not fall.
 -- Assumes nothing.
-use Rattle.std.specs.Prelude.{ℕ, ◌/◌, ◌≤◌, ◌<◌, ◌≡◌, List, [], ◌∷◌, length, get_or}
+use Rattle.refusal.specs.declared.Refusal.{Refusal}
+use Rattle.std.specs.Prelude.{ℕ, ◌/◌, ◌≤◌, ◌<◌, ◌≡◌, List, [], ◌∷◌, length, get_or, Result}
 use Rattle.words.specs.Padded.{padded}
 use Rattle.refusal.specs.Refusals.{answer_number}
 use Rattle.refusal.specs.Outcomes.{Outcome, success}
-use Rattle.refusal.specs.declared.Answer.{Answer}
 use Rattle.start_words.specs.Starts.{pair_count}
 use Rattle.tinydex.specs.declared.DexHeader.{DexHeader}
 use Rattle.code_table.specs.Build.{Room, Build, build_out}
@@ -39,7 +39,7 @@ abbrev pub alone_out : List ℕ → Tables → ℕ → Outcome
 alone_out s T t = locate_out s T (t ∷ []) 1 (pair_count T.starts)
 
 -- of one call of locate
-pub record StandsAlone (s : List ℕ) (T : Tables) (entries : List ℕ) (r : Answer) (before after : LocateWords) : Type 0 where
+pub record StandsAlone (s : List ℕ) (T : Tables) (entries : List ℕ) (r : Result ℕ Refusal) (before after : LocateWords) : Type 0 where
   -- over the tables of a build it succeeds on every list, with an answer word for each entry and a further word for each pair
   pub succeeds : Returned s T → length entries ≤ length before.answers → pair_count T.starts ≤ length before.further
       → answer_number r ≡ 0

@@ -1,10 +1,10 @@
 -- SPEC, Locate: which entries a walk over instructions and payloads confirms, over any tables.
 -- Assumes nothing.
-use Rattle.std.specs.Prelude.{ℕ, ◌+◌, ◌-◌, ◌*◌, ◌/◌, List, [], ◌∷◌, Bool, cond, ◌&&◌, length, get_or, set, replicate, ltb, leb, eqb}
-use Rattle.std.proofs.Math.Option.{Option, none, some}
+use Rattle.std.specs.Prelude.{ℕ, ◌+◌, ◌-◌, ◌*◌, ◌/◌, List, [], ◌∷◌, Bool, cond, ◌&&◌, length, get_or, set, replicate, ltb, leb, eqb, Option, None, Some}
 use Rattle.refusal.specs.Refusals.{is_too_large}
 use Rattle.refusal.specs.Outcomes.{Outcome, refused, success}
-use Rattle.start_words.specs.Starts.{pair_count, Pair, pair_of}
+use Rattle.start_words.specs.Starts.{pair_count, pair_of}
+use Rattle.start_words.specs.declared.Pair.{Pair}
 use Rattle.code_table.specs.Slots.{shared, share_at}
 use Rattle.insn_walk.specs.Walk.{lands}
 
@@ -22,7 +22,7 @@ slot_at base slots t = cond (leb base (t / 16)) (get_or slots (t / 16 - base) 0)
 -- the first method that a slot word other than 0 stands for; none where its share is outside the shares
 unfoldable pub first_of : List ℕ → ℕ → Option ℕ
 first_of ws v =
-    cond (ltb v shared) (some (v - 1)) (cond (leb (3 * (v - shared) + 3) (length ws)) (some (share_at ws (v - shared) 0)) none)
+    cond (ltb v shared) (Some (v - 1)) (cond (leb (3 * (v - shared) + 3) (length ws)) (Some (share_at ws (v - shared) 0)) None)
 
 -- an entry's answer, and the last confirmed offset of each method after it
 pub record Answered : Type 0 where
@@ -53,32 +53,32 @@ tried s p last v m t =
 
 -- a first method without both start words: 15
 abbrev pub tried_by : List ℕ → List ℕ → ℕ → ℕ → ℕ → Option Pair → Option Answered
-tried_by s last v m t none = none
-tried_by s last v m t (some p) = some (tried s p last v m t)
+tried_by s last v m t None = None
+tried_by s last v m t (Some p) = Some (tried s p last v m t)
 
 -- no first method: 15
 abbrev pub answered_by : List ℕ → List ℕ → List ℕ → ℕ → ℕ → Option ℕ → Option Answered
-answered_by s starts last v t none = none
-answered_by s starts last v t (some m) = tried_by s last v m t (pair_of starts m)
+answered_by s starts last v t None = None
+answered_by s starts last v t (Some m) = tried_by s last v m t (pair_of starts m)
 
 abbrev pub answered : List ℕ → Tables → List ℕ → ℕ → ℕ → Option Answered
-answered s T last t v = cond (eqb v 0) (some (record { answer = 0; last = last })) (answered_by s T.starts last v t (first_of T.shares v))
+answered s T last t v = cond (eqb v 0) (Some (record { answer = 0; last = last })) (answered_by s T.starts last v t (first_of T.shares v))
 
 -- the answer of an entry at t
 abbrev pub answered_at : List ℕ → Tables → List ℕ → ℕ → Option Answered
 answered_at s T last t = answered s T last t (slot_at T.base T.slots t)
 
 abbrev pub cons_to : ℕ → Option (List ℕ) → Option (List ℕ)
-cons_to a none = none
-cons_to a (some l) = some (a ∷ l)
+cons_to a None = None
+cons_to a (Some l) = Some (a ∷ l)
 
 abbrev pub and_then : Option Answered → (List ℕ → Option (List ℕ)) → Option (List ℕ)
-and_then none f = none
-and_then (some r) f = cons_to r.answer (f r.last)
+and_then None f = None
+and_then (Some r) f = cons_to r.answer (f r.last)
 
 -- the answers of the entries, in order; none for 15
 unfoldable pub locate_from : List ℕ → Tables → List ℕ → List ℕ → Option (List ℕ)
-locate_from s T last [] = some []
+locate_from s T last [] = Some []
 locate_from s T last (t ∷ ts) = and_then (answered_at s T last t) (λ l. locate_from s T l ts)
 
 -- every last confirmed offset is 0 at first
@@ -86,8 +86,8 @@ unfoldable pub locate_all : List ℕ → Tables → List ℕ → Option (List �
 locate_all s T ts = locate_from s T (replicate (pair_count T.starts) 0) ts
 
 abbrev pub answers_from : Option (List ℕ) → Outcome
-answers_from none = refused 15
-answers_from (some l) = success l
+answers_from None = refused 15
+answers_from (Some l) = success l
 
 -- 1, 4, 15; room counts the answer words, and further the words for last confirmed offsets
 unfoldable pub locate_out : List ℕ → Tables → List ℕ → ℕ → ℕ → Outcome

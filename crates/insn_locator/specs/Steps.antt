@@ -1,30 +1,22 @@
 -- What the inner steps of locate promise each other.
 -- Assumes nothing.
-use Rattle.std.specs.Prelude.{ℕ, ◌≤◌, ◌≡◌, ◌≢◌, Bool, true, false, ◌&&◌, List, [], ◌∷◌, length, get_or, ltb, leb}
-use Rattle.std.proofs.Math.Option.{Option, none, some}
+use Rattle.std.specs.Prelude.{ℕ, ◌≤◌, ◌≡◌, ◌≢◌, Bool, true, false, ◌&&◌, List, [], ◌∷◌, length, get_or, ltb, leb, Option, Some, None}
 use Rattle.std.proofs.lemmas.List.Edits.{sets}
-use Rattle.start_words.specs.Starts.{Pair, pair_of}
+use Rattle.start_words.specs.Starts.{pair_of}
+use Rattle.start_words.specs.declared.Pair.{Pair}
 use Rattle.insn_walk.specs.Walk.{lands}
 use Rattle.insn_locator.specs.Locate.{Tables, Answered, from_of}
 use Rattle.insn_locator.specs.Answers.{entry_of}
-use Rattle.insn_locator.specs.declared.Entry.{Entry}
-use Rattle.insn_locator.specs.declared.Entry.TheVariants.{Word, Fault}
-use Rattle.insn_locator.specs.declared.First.{First}
-use Rattle.insn_locator.specs.declared.First.TheVariants.{Method, Missing}
-
-abbrev pub first_value : First → Option ℕ
-first_value (Method m) = some m
-first_value Missing = none
 
 -- answers stored from place i on
 abbrev pub stored : List ℕ → ℕ → Option (List ℕ) → Option (List ℕ)
-stored out i none = none
-stored out i (some xs) = some (sets out i xs)
+stored out i None = None
+stored out i (Some xs) = Some (sets out i xs)
 
 -- the words after a run over a list of entries: all answered, or one at fault
-abbrev pub ran_to : Bool → List ℕ → Option (List ℕ)
-ran_to true out = some out
-ran_to false out = none
+abbrev pub ran_to : Option (Unit {0}) → List ℕ → Option (List ℕ)
+ran_to (Some _) out = Some out
+ran_to None out = None
 
 -- ---- a list that does not fall: a method's word holds where its walk stands
 
@@ -45,7 +37,7 @@ pub record GoesOn (s : List ℕ) (start m t : ℕ) (before after : List ℕ) : T
 -- for entries from low on each method's walk goes on as from its start
 abbrev pub Ready : List ℕ → Tables → ℕ → List ℕ → Type 0
 Ready s T low last =
-    (m : ℕ) (p : Pair) → pair_of T.starts m ≡ some p → (u : ℕ) → low ≤ u → walks s (from_of p.start (get_or last m 0)) u ≡ walks s p.start u
+    (m : ℕ) (p : Pair) → pair_of T.starts m ≡ Some p → (u : ℕ) → low ≤ u → walks s (from_of p.start (get_or last m 0)) u ≡ walks s p.start u
 
 -- an entry at t keeps it so
 abbrev pub ReadyOn : List ℕ → Tables → ℕ → List ℕ → List ℕ → Type 0
@@ -69,15 +61,11 @@ pub record Tried (onward : Bool) (goal done : Answered) : Type 0 where
   pub answer : done.answer ≡ goal.answer
   pub whole : onward ≡ false → done ≡ goal
 
-abbrev pub word_of : Entry → Option ℕ
-word_of (Word a) = some a
-word_of Fault = none
-
 abbrev pub answer_of : Option Answered → Option ℕ
-answer_of none = none
-answer_of (some r) = some r.answer
+answer_of None = None
+answer_of (Some r) = Some r.answer
 
 -- the entry answered
-pub record EntryIn (onward : Bool) (goal : Option Answered) (r : Entry) (last : List ℕ) : Type 0 where
-  pub answer : word_of r ≡ answer_of goal
+pub record EntryIn (onward : Bool) (goal : Option Answered) (r : Option ℕ) (last : List ℕ) : Type 0 where
+  pub answer : r ≡ answer_of goal
   pub whole : onward ≡ false → entry_of r last ≡ goal

@@ -1,27 +1,26 @@
 // Confirms entries (`insn_verify` and `locate` of insn_locator.rs): an entry is confirmed where it lies before its method's end and a walk over
 // instructions and payloads, from that method's start or its last confirmed entry, lands on it exactly.
 // A list that does not fall is taken onward: each method's walk then goes on from where it stands, so that no stretch is walked twice.
+// Kept, point 5: the slices of a call are parameters of their own, as C lends them and README lists them.
+// Kept, point 7: a const parameter in place of `onward` would make the loop twice.
 #![tactic(auto)]
 
 ghost use Rattle.std.specs.Prelude.{◌≡◌, ◌<◌, true, length};
-ghost use Rattle.start_words.specs.Starts.{pair};
 ghost use Rattle.insn_locator.specs.Answers.{tables, entry_of, locate_words, Located};
 ghost use Rattle.insn_locator.specs.Alone.{StandsAlone};
 ghost use Rattle.insn_locator.specs.Locate.{slot_at, first_of, from_of, tried, answered_at, locate_from, locate_out};
-ghost use Rattle.insn_locator.specs.Steps.{first_value, Tried, GoesOn, EntryIn, ReadyOn, climbs, RunPre, stored, ran_to};
+ghost use Rattle.insn_locator.specs.Steps.{Tried, GoesOn, EntryIn, ReadyOn, RunPre, stored, ran_to};
 
-// The first method of a slot, where its share is inside.
-#[derive(Clone, Copy)]
-enum First {
-    Method(u32),
-    Missing,
-}
+use refusal::Refusal;
+use start_words::Pair;
 
-// An entry's answer, or a table that does not hold what is needed.
+// What a build returned, or any other words.
 #[derive(Clone, Copy)]
-pub enum Entry {
-    Word(u32),
-    Fault,
+struct LentTables<'a> {
+    base: u32,
+    slots: &'a [u32],
+    starts: &'a [u32],
+    shares: &'a [u32],
 }
 
 // The slot of the block that holds an offset; 0 below or past the slots.
@@ -36,18 +35,18 @@ fn slot_at(base: u32, slots: &[u32], off: u32) -> u32
 }
 
 // The first method of a slot that is not free.
-fn first_of(shares: &[u32], slot: u32) -> First
+fn first_of(shares: &[u32], slot: u32) -> Option<u32>
     requires { 0 < slot }
-    ensures { first_value result ≡ first_of shares.now slot }
+    ensures { result ≡ first_of shares.now slot }
 {
     if slot < code_table::SHARED {
-        return First::Method(slot - 1);
+        return Some(slot - 1);
     }
     let at = 3 * ((slot - code_table::SHARED) as usize);
     if shares.len() < at + 3 {
-        return First::Missing;
+        return None;
     }
-    First::Method(shares[at])
+    Some(shares[at])
 }
 
 // Where the walk of a method begins: its last confirmed offset, else its start.
@@ -61,22 +60,21 @@ fn from_of(start: u32, confirmed: u32) -> u32
 // where the walk to any other stands.
 fn confirm(
     buf: &[u8],
-    start: u32,
-    end: u32,
+    array: Pair,
     slot: u32,
     m: usize,
     off: u32,
     onward: bool,
     last: &mut [u32],
 ) -> u32
-    ensures answers { let goal = tried buf.now (pair start end) last.old slot m off in
+    ensures answers { let goal = tried buf.now array last.old slot m off in
         Tried onward goal (record { answer = result; last = last.new }) }
-    ensures goes_on { onward ≡ true → GoesOn buf.now start m off last.old last.new }
+    ensures goes_on { onward ≡ true → GoesOn buf.now array.start m off last.old last.new }
 {
-    if end <= off {
+    if array.end <= off {
         return 0;
     }
-    let from = from_of(start, words::word_at(last, m));
+    let from = from_of(array.start, words::word_at(last, m));
     if from == 0 {
         return 0;
     }
@@ -95,31 +93,23 @@ fn confirm(
 // The answer of one entry. `last` has for each method its last confirmed offset or, onward, where its walk stands; 0 for none.
 fn locate_entry(
     buf: &[u8],
-    base: u32,
-    slots: &[u32],
-    starts: &[u32],
-    shares: &[u32],
+    lent: LentTables<'_>,
     off: u32,
     onward: bool,
     last: &mut [u32],
-) -> Entry
-    ensures answers { let T = tables base slots.now starts.now shares.now in
+) -> Option<u32>
+    ensures answers { let T = tables lent.entry.base lent.entry.slots.now lent.entry.starts.now lent.entry.shares.now in
         EntryIn onward (answered_at buf.now T last.old off) result last.new }
-    ensures goes_on { let T = tables base slots.now starts.now shares.now in
+    ensures goes_on { let T = tables lent.entry.base lent.entry.slots.now lent.entry.starts.now lent.entry.shares.now in
         (onward ≡ true → ReadyOn buf.now T off last.old last.new) }
 {
-    let slot = slot_at(base, slots, off);
+    let slot = slot_at(lent.base, lent.slots, off);
     if slot == 0 {
-        return Entry::Word(0);
+        return Some(0);
     }
-    let First::Method(first) = first_of(shares, slot) else {
-        return Entry::Fault;
-    };
-    let m = first as usize;
-    let start_words::ReadPair::Both { start, end } = start_words::pair(starts, m) else {
-        return Entry::Fault;
-    };
-    Entry::Word(confirm(buf, start, end, slot, m, off, onward, last))
+    let m = first_of(lent.shares, slot)? as usize;
+    let array = start_words::pair_at(lent.starts, m)?;
+    Some(confirm(buf, array, slot, m, off, onward, last))
 }
 
 // The answer of one entry: its slot word where it is confirmed, else 0. `last` has the last confirmed offset of each method, 0 for none.
@@ -131,59 +121,38 @@ pub fn locate_one(
     shares: &[u32],
     off: u32,
     last: &mut [u32],
-) -> Entry
+) -> Option<u32>
     ensures answers { let T = tables base slots.now starts.now shares.now in
         entry_of result last.new ≡ answered_at buf.now T last.old off }
 {
-    locate_entry(buf, base, slots, starts, shares, off, false, last)
+    let lent = LentTables {
+        base,
+        slots,
+        starts,
+        shares,
+    };
+    locate_entry(buf, lent, off, false, last)
 }
 
-// Whether no entry is below the one before it.
-fn nondecreasing(entries: &[u32]) -> bool
-    ensures { result ≡ climbs 0 entries.now }
-{
-    let mut low = 0;
-    let mut i = 0;
-    while i < entries.len() {
-        let off = entries[i];
-        if off < low {
-            return false;
-        }
-        low = off;
-        i += 1;
-    }
-    true
-}
-
-// The answers of the entries, one after another; false where a table does not hold what one needs. Entries that do not fall are taken onward.
+// The answers of the entries, one after another; none where a table does not hold what one needs. Entries that do not fall are taken onward.
 fn locate_list(
     buf: &[u8],
-    base: u32,
-    slots: &[u32],
-    starts: &[u32],
-    shares: &[u32],
+    lent: LentTables<'_>,
     entries: &[u32],
     onward: bool,
     last: &mut [u32],
     answers: &mut [u32],
-) -> bool
-    requires { let T = tables base slots.now starts.now shares.now in
+) -> Option<()>
+    requires { let T = tables lent.base lent.slots.now lent.starts.now lent.shares.now in
         RunPre onward buf.now T last.old entries.now answers.old }
-    ensures { let T = tables base slots.now starts.now shares.now in
+    ensures { let T = tables lent.entry.base lent.entry.slots.now lent.entry.starts.now lent.entry.shares.now in
         let run = locate_from buf.now T last.old entries.now in
         ran_to result answers.new ≡ stored answers.old 0 run }
 {
-    let mut i = 0;
-    while i < entries.len() {
-        let Entry::Word(word) = locate_entry(
-            buf, base, slots, starts, shares, entries[i], onward, last,
-        ) else {
-            return false;
-        };
-        answers[i] = word;
-        i += 1;
+    for (i, &off) in entries.iter().enumerate() {
+        answers[i] = locate_entry(buf, lent, off, onward, last)?;
     }
-    true
+    Some(())
 }
 
 // The answer of each entry: its slot word where it is confirmed, else 0. A list that does not fall is linear: the further words then hold where
@@ -197,7 +166,7 @@ pub fn locate(
     entries: &[u32],
     further: &mut [u32],
     answers: &mut [u32],
-) -> refusal::Answer
+) -> Result<usize, Refusal>
     ensures gives { let T = tables base slots.now starts.now shares.now in
         let before = locate_words further.old answers.old in
         let after = locate_words further.new answers.new in
@@ -211,31 +180,27 @@ pub fn locate(
     words::clear(further);
     words::clear(answers);
     if refusal::too_large(file.len()) {
-        return refusal::Answer::Refused(refusal::Refusal::FileTooLarge);
+        return Err(Refusal::FileTooLarge);
     }
     let n = start_words::count(starts);
     if answers.len() < entries.len() {
-        return refusal::Answer::Refused(refusal::Refusal::LentTooShort);
+        return Err(Refusal::LentTooShort);
     }
     if further.len() < n {
-        return refusal::Answer::Refused(refusal::Refusal::LentTooShort);
+        return Err(Refusal::LentTooShort);
     }
-    let onward = nondecreasing(entries);
-    let all = locate_list(
-        file,
+    let onward = entries.is_sorted();
+    let lent = LentTables {
         base,
         slots,
         starts,
         shares,
-        entries,
-        onward,
-        &mut further[..n],
-        answers,
-    );
+    };
+    let run = locate_list(file, lent, entries, onward, &mut further[..n], answers);
     words::clear(further); // what they hold ends with the call
-    if all {
-        return refusal::Answer::Done(entries.len());
+    if run.is_some() {
+        return Ok(entries.len());
     }
     words::clear(answers); // those before the fault
-    refusal::Answer::Refused(refusal::Refusal::LentTable)
+    Err(Refusal::LentTable)
 }

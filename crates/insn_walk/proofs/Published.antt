@@ -1,10 +1,10 @@
 -- A step is the published length of what stands there. A payload's length is by the same numbers in both, and bytes tell a unit's two halves
 -- apart; an instruction's is that of its format, by the opcodes' own law.
 -- Assumes nothing.
+use Rattle.std.specs.Prelude.{Some}
 use mathlib.Core.Path.{◌≡◌, refl, ◌∙◌, ap}
 use mathlib.Core.Bool.{Bool, true, false}
 use mathlib.Core.List.{List}
-use mathlib.Core.Option.{some}
 use Prim.Native.Nat.{ℕ, ◌+◌, ◌*◌, ◌≤◌, ◌<◌}
 use native.Mathlib.Omega.{arith}
 use lib.Dec.{eqb, ltb}
@@ -65,7 +65,7 @@ module _ (s : List ℕ) (B : Bytes s) (p : ℕ) where
 
   -- ---- the step
 
-  pub step_instruction : {n : ℕ} → Instruction s p n → p < length s → step s p ≡ some (p + 2 * n)
+  pub step_instruction : {n : ℕ} → Instruction s p n → p < length s → step s p ≡ Some (p + 2 * n)
   step_instruction {n} i h =
       opcode_step s p (none_by (ltb 0 (payload_units s p)) refl i) h n (units_published (byte s p) (B p) ∙ i.size) i.some_size
 
@@ -74,5 +74,5 @@ module _ (s : List ℕ) (B : Bytes s) (p : ℕ) where
   some_units (sparse_switch e) = omega arith
   some_units (fill_array_data e) = omega arith
 
-  pub step_payload : {n : ℕ} → Payload s p n → p + 2 * n ≤ length s → step s p ≡ some (p + 2 * n)
+  pub step_payload : {n : ℕ} → Payload s p n → p + 2 * n ≤ length s → step s p ≡ Some (p + 2 * n)
   step_payload {n} l h = payload_step s p n (published_payload l) (some_units l) h

@@ -3,10 +3,10 @@
 --     walk     walk_end, walk_stuck, walk_step, lands_step; walk_on, walk_lands, walk_passes, walk_fails
 --     Steps    steps_le, steps_even, steps_trans, steps_on; lands_to, to_lands, lands_again
 -- Assumes nothing.
+use Rattle.std.specs.Prelude.{Option, None, Some}
 use mathlib.Core.Path.{◌≡◌, refl, ap, sym, ◌∙◌}
 use mathlib.Core.Bool.{Bool, true, false}
 use mathlib.Core.List.{List}
-use mathlib.Core.Option.{Option, none, some}
 use Prim.Native.Nat.{ℕ, zero, suc, ◌+◌, ◌-◌, ◌%◌, ◌≤◌, ◌<◌}
 use native.Mathlib.Omega.{arith}
 use lib.Dec.{eqb, ltb}
@@ -30,13 +30,13 @@ module _ (n m : ℕ) (s : List ℕ) (t : ℕ) (ih : (p : ℕ) → t - p ≤ n �
   enough_by : (p : ℕ) → t - p ≤ suc n → t - p ≤ suc m → (b : Bool) → ltb p t ≡ b → (o : Option ℕ) → o ≡ step s p
       → walk_in (suc n) s p t ≡ walk_in (suc m) s p t
   enough_by p h k false b o e = at_end (suc n) s p t (ltb-false p t b) ∙ sym (at_end (suc m) s p t (ltb-false p t b))
-  enough_by p h k true b none e =
+  enough_by p h k true b None e =
       let l : p < t = ltb-true p t b in
-      going n s p t none l e ∙ sym (going m s p t none l e)
-  enough_by p h k true b (some q) e =
+      going n s p t None l e ∙ sym (going m s p t None l e)
+  enough_by p h k true b (Some q) e =
       let l : p < t = ltb-true p t b in
       let f = step_keeps s p q e in
-      going n s p t (some q) l e ∙ ap (after_steps 1) (ih q (omega arith) (omega arith)) ∙ sym (going m s p t (some q) l e)
+      going n s p t (Some q) l e ∙ ap (after_steps 1) (ih q (omega arith) (omega arith)) ∙ sym (going m s p t (Some q) l e)
 
 -- more steps than bytes change nothing
 enough : (n m : ℕ) (s : List ℕ) (t p : ℕ) → t - p ≤ n → t - p ≤ m → walk_in n s p t ≡ walk_in m s p t
@@ -51,20 +51,20 @@ module _ (s : List ℕ) (p t : ℕ) where
   unfolding walk
   walk_end h = at_end (t - p) s p t h
 
-  pub walk_stuck : p < t → none ≡ step s p → walk s p t ≡ failed
+  pub walk_stuck : p < t → None ≡ step s p → walk s p t ≡ failed
   unfolding walk
-  walk_stuck h e = enough (t - p) (suc (t - p)) s t p (omega arith) (omega arith) ∙ going (t - p) s p t none h e
+  walk_stuck h e = enough (t - p) (suc (t - p)) s t p (omega arith) (omega arith) ∙ going (t - p) s p t None h e
 
-  pub walk_step : (q : ℕ) → p < t → some q ≡ step s p → walk s p t ≡ after_steps 1 (walk s q t)
+  pub walk_step : (q : ℕ) → p < t → Some q ≡ step s p → walk s p t ≡ after_steps 1 (walk s q t)
   unfolding walk
   walk_step q h e =
       let f = step_keeps s p q e in
       enough (t - p) (suc (t - p)) s t p (omega arith) (omega arith)
-      ∙ going (t - p) s p t (some q) h e
+      ∙ going (t - p) s p t (Some q) h e
       ∙ ap (after_steps 1) (enough (t - p) (t - q) s t q (omega arith) (omega arith))
 
 -- a step changes nothing of what lies after it
-pub lands_step : (s : List ℕ) (p t q : ℕ) → p < t → some q ≡ step s p → lands s q t ≡ lands s p t
+pub lands_step : (s : List ℕ) (p t q : ℕ) → p < t → Some q ≡ step s p → lands s q t ≡ lands s p t
 lands_step s p t q h e = sym (ap (λ (w : Walked). w.lands) (walk_step s p t q h e))
 
 after_more : (k : ℕ) (w : Walked) → after_steps (k + 1) w ≡ after_steps k (after_steps 1 w)
@@ -79,7 +79,7 @@ after_none w =
 
 -- for a loop that has taken k steps
 module _ (s : List ℕ) (p t k : ℕ) where
-  pub walk_on : (q : ℕ) → p < t → some q ≡ step s p → after_steps (k + 1) (walk s q t) ≡ after_steps k (walk s p t)
+  pub walk_on : (q : ℕ) → p < t → Some q ≡ step s p → after_steps (k + 1) (walk s q t) ≡ after_steps k (walk s p t)
   walk_on q h e = after_more k (walk s q t) ∙ ap (after_steps k) (sym (walk_step s p t q h e))
 
   ends_by : (b : Bool) → b ≡ eqb p t → t ≤ p → record { lands = b; steps = k } ≡ after_steps k (walk s p t)
@@ -93,14 +93,14 @@ module _ (s : List ℕ) (p t k : ℕ) where
   pub walk_passes : t < p → record { lands = false; steps = k } ≡ after_steps k (walk s p t)
   walk_passes h = ends_by false (sym (ne_eqb p t (λ z. omega arith))) (omega arith)
 
-  pub walk_fails : p < t → none ≡ step s p → record { lands = false; steps = k + 1 } ≡ after_steps k (walk s p t)
+  pub walk_fails : p < t → None ≡ step s p → record { lands = false; steps = k + 1 } ≡ after_steps k (walk s p t)
   walk_fails h e = ap (after_steps k) (sym (walk_stuck s p t h e))
 
 -- ---- the walk as a relation: from p it comes to t
 
 pub data Steps (s : List ℕ) : ℕ → ℕ → Type 0 where
   here : {p q : ℕ} → p ≡ q → Steps s p q
-  onward : {p q t : ℕ} → step s p ≡ some q → Steps s q t → Steps s p t
+  onward : {p q t : ℕ} → step s p ≡ Some q → Steps s q t → Steps s p t
 
 pub steps_le : {s : List ℕ} {p q : ℕ} → Steps s p q → p ≤ q
 steps_le (here e) = omega arith
@@ -117,7 +117,7 @@ pub steps_trans : {s : List ℕ} {p q t : ℕ} → Steps s p q → Steps s q t �
 steps_trans (here e) r = steps_from e r
 steps_trans (onward e x) r = onward e (steps_trans x r)
 
-one_way : (o : Option ℕ) (q r : ℕ) → o ≡ some q → o ≡ some r → q ≡ r
+one_way : (o : Option ℕ) (q r : ℕ) → o ≡ Some q → o ≡ Some r → q ≡ r
 one_way o q r e f = cc
 
 pub steps_on : {s : List ℕ} {a p t : ℕ} → Steps s a p → Steps s a t → p ≤ t → Steps s p t
@@ -135,10 +135,10 @@ ends_here s p t h e =
 module _ (n : ℕ) (s : List ℕ) (t : ℕ) (ih : (q : ℕ) → t - q ≤ n → lands s q t ≡ true → Steps s q t) where
   lands_by : (p : ℕ) → t - p ≤ suc n → lands s p t ≡ true → (b : Bool) → ltb p t ≡ b → (o : Option ℕ) → o ≡ step s p → Steps s p t
   lands_by p h e false b o k = ends_here s p t (ltb-false p t b) e
-  lands_by p h e true b none k =
+  lands_by p h e true b None k =
       let f : lands s p t ≡ false = ap (λ (w : Walked). w.lands) (walk_stuck s p t (ltb-true p t b) k) in
       absurd (let z : ◌≡◌ {A = ℕ} 0 1 = cc in omega arith)
-  lands_by p h e true b (some q) k =
+  lands_by p h e true b (Some q) k =
       let l : p < t = ltb-true p t b in
       let f = step_keeps s p q k in
       let g : lands s p t ≡ lands s q t = ap (λ (w : Walked). w.lands) (walk_step s p t q l k) in

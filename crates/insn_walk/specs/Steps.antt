@@ -1,11 +1,8 @@
 -- What the walk's inner steps ask for and promise: the offset after what stands at a place.
 -- Assumes nothing.
 use Rattle.std.specs.Prelude.{ℕ, ◌<◌, ◌^◌, ◌≡◌, List, length}
-use Rattle.std.proofs.Math.Option.{Option, none, some}
 use Rattle.dalvik.specs.Numbers.{byte}
 use Rattle.insn_walk.specs.Walk as W
-use Rattle.insn_walk.specs.declared.Advance.{Advance}
-use Rattle.insn_walk.specs.declared.Advance.TheVariants.{Next, Stuck}
 
 -- the byte at p is 0
 pub record AtZero (s : List ℕ) (p : ℕ) : Type 0 where
@@ -18,7 +15,3 @@ pub record PayloadAt (s : List ℕ) (p n : ℕ) : Type 0 where
   pub units : W.payload_units s p ≡ n
   pub some_units : 0 < n
   pub small : n < 2 ^ 48
-
-abbrev pub next_of : Advance → Option ℕ
-next_of (Next q) = some q
-next_of Stuck = none

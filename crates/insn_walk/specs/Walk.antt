@@ -2,8 +2,7 @@
 -- or passed. The step alone says what stands at a place; proofs/Steps.antt and proofs/Walks.antt have the laws that others cite, and
 -- proofs/Published.antt that a step is the published length.
 -- Assumes nothing.
-use Rattle.std.specs.Prelude.{ℕ, zero, suc, ◌+◌, ◌-◌, ◌*◌, ◌/◌, List, Bool, false, cond, ◌&&◌, length, ltb, leb, eqb}
-use Rattle.std.proofs.Math.Option.{Option, none, some}
+use Rattle.std.specs.Prelude.{ℕ, zero, suc, ◌+◌, ◌-◌, ◌*◌, ◌/◌, List, Bool, false, cond, ◌&&◌, length, ltb, leb, eqb, Option, None, Some}
 use Rattle.dalvik.specs.Numbers.{byte, le16, le32}
 use Rattle.opcodes.specs.Length.{units_of}
 
@@ -22,7 +21,7 @@ payload_units s p = cond (eqb (byte s p) 0) (units_by s p (byte s (p + 1))) 0
 
 -- the offset n units after p, where that is a step
 abbrev pub past : Bool → ℕ → ℕ → Option ℕ
-past b p n = cond b (some (p + 2 * n)) none
+past b p n = cond b (Some (p + 2 * n)) None
 
 -- the offset after what stands at p. A payload is whole inside the file, or the step fails: its length covers its header, so that a header cut
 -- off passes the end too. Of an instruction the opcode is inside, and has a length
@@ -51,8 +50,8 @@ after_steps k w = record { lands = w.lands; steps = k + w.steps }
 
 -- a walk goes on after its first step, or fails
 abbrev pub on_step : Option ℕ → (ℕ → Walked) → Walked
-on_step none g = failed
-on_step (some q) g = after_steps 1 (g q)
+on_step None g = failed
+on_step (Some q) g = after_steps 1 (g q)
 
 -- a walk of at most n steps from p to t
 unfoldable pub walk_in : ℕ → List ℕ → ℕ → ℕ → Walked

@@ -1,19 +1,13 @@
 // The walk over instructions and payloads (`insn_verify` of insn_locator.rs, which knows no payloads), and its step.
 #![tactic(auto)]
 
-ghost use Rattle.std.specs.Prelude.{◌≡◌, ◌<◌, min, length};
+ghost use Rattle.std.specs.Prelude.{◌≡◌, ◌<◌, length};
 ghost use Rattle.insn_walk.specs.Walk.{step};
 ghost use Rattle.insn_walk.specs.Answer.{Walks};
-ghost use Rattle.insn_walk.specs.Steps.{AtZero, PayloadAt, next_of};
-
-// Where a walk goes on.
-#[derive(Clone, Copy)]
-enum Advance {
-    Next(usize),
-    Stuck,
-}
+ghost use Rattle.insn_walk.specs.Steps.{AtZero, PayloadAt};
 
 // Whether a walk lands on its target, how many steps it took, and where it stands: the last place of it that is not past the target.
+// Kept: no Option, since steps and place are told whether it lands or not.
 #[derive(Clone, Copy)]
 pub struct Walked {
     pub lands: bool,
@@ -22,22 +16,22 @@ pub struct Walked {
 }
 
 // The offset after a payload of this length, where all of it is inside.
-fn past_payload(buf: &[u8], at: usize, units: usize) -> Advance
+fn past_payload(buf: &[u8], at: usize, units: usize) -> Option<usize>
     requires { PayloadAt buf.now at units }
-    ensures { next_of result ≡ step buf.now at }
+    ensures { result ≡ step buf.now at }
 {
     let next = at + 2 * units;
     if buf.len() < next {
-        return Advance::Stuck;
+        return None;
     }
-    Advance::Next(next)
+    Some(next)
 }
 
 // The offset after what begins with the byte 0: a payload, by the byte after it, or else nop. Bytes past the end read as zeros: a length covers the
 // payload's header, so that one which is cut off passes the end all the same.
-fn past_zero(buf: &[u8], at: usize) -> Advance
+fn past_zero(buf: &[u8], at: usize) -> Option<usize>
     requires { AtZero buf.now at }
-    ensures { next_of result ≡ step buf.now at }
+    ensures { result ≡ step buf.now at }
 {
     let ident = structs::byte_at(buf, at + 1);
     if ident == 1 {
@@ -49,35 +43,24 @@ fn past_zero(buf: &[u8], at: usize) -> Advance
         return past_payload(buf, at, size * 4 + 2);
     }
     if ident == 3 {
-        let structs::Read32::Value(size) = structs::read_u32(buf, at + 4) else {
-            return Advance::Stuck;
-        };
+        let size = structs::read_u32(buf, at + 4)?;
         let width = structs::u16_at(buf, at + 2) as usize;
         return past_payload(buf, at, ((size as usize) * width + 1) / 2 + 4);
     }
-    Advance::Next(at + 2)
+    Some(at + 2)
 }
 
 // The offset after the payload or instruction at a place in the file.
-fn step(buf: &[u8], at: usize) -> Advance
+fn step(buf: &[u8], at: usize) -> Option<usize>
     requires { at < length buf.now }
-    ensures { next_of result ≡ step buf.now at }
+    ensures { result ≡ step buf.now at }
 {
     let op = buf[at];
     if op == 0 {
         return past_zero(buf, at);
     }
-    let opcodes::Length::Units(n) = opcodes::oplen(op) else {
-        return Advance::Stuck;
-    };
-    Advance::Next(at + 2 * n)
-}
-
-// Where a walk stops taking steps: at its target, or at the file's end.
-fn nearer(to: usize, len: usize) -> usize
-    ensures { result ≡ min to len }
-{
-    if to < len { to } else { len }
+    let n = opcodes::oplen(op)?;
+    Some(at + 2 * n)
 }
 
 // The walk from start to end. One bound, target or file's end, is all that a turn tests besides the opcode.
@@ -85,12 +68,12 @@ pub fn walk(buf: &[u8], start: u32, end: u32) -> Walked
     ensures { Walks buf.now start end result }
 {
     let to = end as usize;
-    let bound = nearer(to, buf.len());
+    let bound = to.min(buf.len());
     let mut at = start as usize;
     let mut pos = start as usize;
     let mut steps: usize = 0;
     while pos < bound {
-        let Advance::Next(next) = step(buf, pos) else {
+        let Some(next) = step(buf, pos) else {
             return Walked {
                 lands: false,
                 steps: steps + 1,
@@ -111,13 +94,13 @@ pub fn walk(buf: &[u8], start: u32, end: u32) -> Walked
     if pos == to {
         return Walked {
             lands: true,
-            steps: steps,
+            steps,
             at: pos,
         };
     }
     Walked {
         lands: false,
-        steps: steps,
-        at: at,
+        steps,
+        at,
     }
 }

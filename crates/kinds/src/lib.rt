@@ -7,7 +7,7 @@ ghost use Rattle.kinds.specs.Kinds.{kind_of, is_strings, meant, kind_read};
 ghost use Rattle.kinds.specs.Width.{width_of};
 
 // What the index names: the kinds 1 to 4 (SPEC, Conventions).
-#[derive(Clone, Copy)]
+#[derive(Clone, Copy, PartialEq, Eq)]
 pub enum Kind {
     Strings,
     Types,
@@ -15,36 +15,29 @@ pub enum Kind {
     Methods,
 }
 
-#[derive(Clone, Copy)]
-pub enum KindRead {
-    Known(Kind),
-    Unknown,
-}
-
-pub fn kind_of(k: u32) -> KindRead
+// The kind of a number.
+// Kept: a `TryFrom<u32>` would want an error type, which its one caller drops for a refusal.
+#[tactic(auto, unfolding(crate::specs::Kinds::kind_of))]
+pub fn kind_of(k: u32) -> Option<Kind>
     ensures { kind_read result ≡ kind_of k }
 {
     match k {
-        1 => KindRead::Known(Kind::Strings),
-        2 => KindRead::Known(Kind::Types),
-        3 => KindRead::Known(Kind::Fields),
-        4 => KindRead::Known(Kind::Methods),
-        _ => KindRead::Unknown,
+        1 => Some(Kind::Strings),
+        2 => Some(Kind::Types),
+        3 => Some(Kind::Fields),
+        4 => Some(Kind::Methods),
+        _ => None,
     }
 }
 
 pub fn is_strings(kind: Kind) -> bool
     ensures { result ≡ is_strings (meant kind) }
 {
-    match kind {
-        Kind::Strings => true,
-        Kind::Types => false,
-        Kind::Fields => false,
-        Kind::Methods => false,
-    }
+    kind == Kind::Strings
 }
 
 // The width in bytes of the index that an opcode of the kind names; 0 for another opcode.
+#[tactic(auto, unfolding(crate::specs::Width::width_of))]
 pub fn string_width(op: u8) -> usize
     ensures { result ≡ width_of strings op }
 {
@@ -55,6 +48,7 @@ pub fn string_width(op: u8) -> usize
     }
 }
 
+#[tactic(auto, unfolding(crate::specs::Width::width_of))]
 fn type_width(op: u8) -> usize
     ensures { result ≡ width_of types op }
 {
@@ -64,6 +58,7 @@ fn type_width(op: u8) -> usize
     }
 }
 
+#[tactic(auto, unfolding(crate::specs::Width::width_of))]
 fn field_width(op: u8) -> usize
     ensures { result ≡ width_of fields op }
 {
@@ -73,6 +68,7 @@ fn field_width(op: u8) -> usize
     }
 }
 
+#[tactic(auto, unfolding(crate::specs::Width::width_of))]
 fn method_width(op: u8) -> usize
     ensures { result ≡ width_of methods op }
 {

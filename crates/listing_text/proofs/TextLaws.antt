@@ -4,14 +4,15 @@
 --     head_out     head_unknown, head_known
 --     decimal      named_number
 -- Assumes nothing.
-use Prim.Native.Nat.{ℕ, suc, ◌+◌, ◌-◌, ◌≤◌, ◌<◌}
+use Prim.Native.Nat.{ℕ, suc, ◌+◌, ◌≤◌, ◌<◌}
 use native.Mathlib.Omega.{arith}
 use mathlib.Core.Path.{◌≡◌, refl, sym, ap, ◌∙◌}
 use mathlib.Core.Logic.{◌⊎◌, ⊎_elim}
 use mathlib.Core.List.{List, [], ◌∷◌, ◌++◌, append_assoc, append-nil}
-use lib.ListN.{length, take, drop, get_or}
-use lib.Seq.{take_all, take-suc}
+use lib.ListN.{length, take, get_or}
+use lib.Seq.{take-suc}
 use borrow.Author.Tests.{le-leb, lt-leb}
+use Rattle.std.proofs.Common.{◌≢◌}
 use Rattle.refusal.specs.Outcomes.{refused}
 use Rattle.text_out.specs.Text.{decimal, text_outcome}
 use Rattle.text_out.specs.Write.{Writes}
@@ -36,11 +37,10 @@ more_next ms i h x y =
     let s : i + 1 ≡ suc i = omega arith in
     rw (s, take-suc ms i 0 h, more_more (take i ms) (get_or ms i 0)) (writes_then x y)
 
--- the first method, and the others as they are lent on
-pub mids_some : (ms : List ℕ) → 0 < length ms → mids_text ms ≡ decimal (get_or ms 0 0) ++ more (take (length ms - 1) (drop 1 ms))
+-- the first method, and the others
+pub mids_some : (ms : List ℕ) (m : ℕ) (rest : List ℕ) → ms ≡ m ∷ rest → mids_text ms ≡ decimal m ++ more rest
 unfolding mids_text
-mids_some [] h = absurd (omega arith)
-mids_some (m ∷ ms) h = ap (λ (l : List ℕ). decimal m ++ more l) (sym (take_all (suc (length ms) - 1) ms (omega arith)))
+mids_some ms m rest e = rw e
 
 pub mids_none : (ms : List ℕ) → length ms ≡ 0 → mids_text ms ≡ 45 ∷ []
 unfolding mids_text
@@ -49,13 +49,13 @@ mids_none (m ∷ ms) h = absurd (omega arith)
 
 -- ---- the head's number of a kind
 
-unknown_above : (kind hits room : ℕ) → 4 < kind → head_out kind hits room ≡ refused 2
+pub head_unknown : (kind hits room : ℕ) → (kind ≡ 0) ⊎ (kind ≢ 0) × (4 < kind) → head_out kind hits room ≡ refused 2
 unfolding head_out
-unknown_above kind hits room h = rw (le-leb 1 kind (omega arith), lt-leb kind 4 h) refl
-
-pub head_unknown : (kind hits room : ℕ) → (kind ≡ 0) ⊎ (4 < kind) → head_out kind hits room ≡ refused 2
-unfolding head_out
-head_unknown kind hits room h = ⊎_elim (λ e. rw (lt-leb 1 kind (omega arith)) refl) (λ e. unknown_above kind hits room e) h
+head_unknown kind hits room h =
+    ⊎_elim
+    (λ e. rw (lt-leb 1 kind (omega arith)) refl)
+    (λ e. rw (le-leb 1 kind (omega arith), lt-leb kind 4 e.1) refl)
+    h
 
 pub head_known : (kind hits room : ℕ) → 0 < kind → kind ≤ 4 → head_out kind hits room ≡ text_outcome (head_text kind hits) room
 unfolding head_out

@@ -1,15 +1,15 @@
 -- What the build of both maps of method ids comes to: the refusal's number, and the words of the four lent slices. Refusals in the
 -- order of SPEC, Groups: 1, 3, 4. The keys are those of "Dalvik Executable format", "method_id_item".
 -- Assumes nothing.
-use Rattle.std.specs.Prelude.{ℕ, ◌≡◌, List, [], ◌∷◌, length}
+use Rattle.std.specs.Prelude.{ℕ, ◌≡◌, List, [], ◌∷◌, length, Result, Ok, Err}
 use Rattle.dalvik.specs.Ids.{method_id_size, method_class_idx, method_name_idx}
 use Rattle.tinydex.specs.declared.DexHeader.{DexHeader}
+use Rattle.refusal.specs.declared.Refusal.{Refusal}
 use Rattle.refusal.specs.Refusals.{refusal_number}
 use Rattle.groups.specs.Built as one
 use Rattle.groups.specs.Built.{GroupWords, groups_of, Laid}
 use Rattle.groups.specs.Join.{first_refusal, kept}
 use Rattle.method_locator.specs.declared.Built.{Built}
-use Rattle.method_locator.specs.declared.Built.TheVariants.{Done, Refused}
 
 -- the words of the build's slices: the groups by class, and those by name
 pub record MethodWords : Type 0 where
@@ -49,20 +49,20 @@ abbrev pub outcome : List ℕ → DexHeader → MethodWords → Outcome
 outcome s h before = joint (clz_outcome s h before.clz) (name_outcome s h before.name)
 
 -- the number of an answer, 0 for success, and how many method ids it says are grouped
-abbrev pub built_number : Built → ℕ
-built_number (Done c n) = 0
-built_number (Refused r) = refusal_number r
+abbrev pub built_number : Result Built Refusal → ℕ
+built_number (Ok b) = 0
+built_number (Err r) = refusal_number r
 
-abbrev pub clz_count : Built → ℕ
-clz_count (Done c n) = c
-clz_count (Refused r) = 0
+abbrev pub clz_count : Result Built Refusal → ℕ
+clz_count (Ok b) = b.clz
+clz_count (Err r) = 0
 
-abbrev pub name_count : Built → ℕ
-name_count (Done c n) = n
-name_count (Refused r) = 0
+abbrev pub name_count : Result Built Refusal → ℕ
+name_count (Ok b) = b.name
+name_count (Err r) = 0
 
 -- an answer and the words left are the outcome's
-pub record Gives (o : Outcome) (r : Built) (before after : MethodWords) : Type 0 where
+pub record Gives (o : Outcome) (r : Result Built Refusal) (before after : MethodWords) : Type 0 where
   pub number : built_number r ≡ o.number
   pub clz_counted : clz_count r ≡ length o.clz.ids
   pub name_counted : name_count r ≡ length o.name.ids

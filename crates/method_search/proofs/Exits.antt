@@ -1,6 +1,7 @@
 -- The ways out of method search. The lent words are first cleared; cs and ct are the words of the strings and of the types, as each step
 -- leaves them.
 -- Assumes nothing.
+use Rattle.std.specs.Prelude.{Result, Ok, Err}
 use Prim.Native.Nat.{ℕ, ◌≤◌, ◌<◌}
 use native.Mathlib.Omega.{arith}
 use mathlib.Core.Path.{◌≡◌, refl, ap, sym, subst, ◌∙◌}
@@ -17,8 +18,6 @@ use Rattle.dalvik.specs.Ids.{method_class_idx}
 use Rattle.words.proofs.Shared.{case}
 use Rattle.refusal.specs.declared.Refusal.{Refusal}
 use Rattle.refusal.specs.declared.Refusal.TheVariants.{LentTooShort}
-use Rattle.refusal.specs.declared.Answer.{Answer}
-use Rattle.refusal.specs.declared.Answer.TheVariants.{Done, Refused}
 use Rattle.refusal.specs.Refusals.{refusal_number, answer_number}
 use Rattle.word_set.specs.Found.{Found, fitted}
 use Rattle.word_set.specs.Steps.{Whole}
@@ -29,10 +28,10 @@ use Rattle.string_search.proofs.Listing.{owners_listed}
 use Rattle.type_search.specs.Types.{TypeFound, type_words, or_short, Searched as TypesSearched}
 use Rattle.type_search.proofs.Exits.{held_fit, held_set, held_few}
 use Rattle.type_search.proofs.Types.{types_found, short_fault, short_four, short_none}
-use Rattle.method_search.specs.Steps.{Chosen, Selected}
+use Rattle.method_search.specs.Steps.{sieve_for, Chosen, Selected}
 use Rattle.method_search.specs.Methods.{Asked, asked_fault, SearchWords, search_words, Lists, settles, lent_fault, Searched}
 use Rattle.method_search.proofs.Steps.{settles_given, settles_absent, Sound, sound}
-use Rattle.method_search.proofs.Fitting.{sieve_of, methods_listed, found_fit, fit_found}
+use Rattle.method_search.proofs.Fitting.{methods_listed, found_fit, fit_found}
 
 -- three slices, one after another; g is the length of the class
 either : (b : Bool) (k n m : ℕ) → k ≡ n → k ≡ m → k ≡ cond b n m
@@ -107,13 +106,13 @@ short_fits fault room xs e =
     (λ (h : length xs ≤ room). h) (below_or_not room (length xs))
 
 -- a set said in another way, and without a fault
-found_same : {P Q : ℕ → Type 0} {fault : ℕ} {r : Answer} {before after : List ℕ} → ((x : ℕ) → P x → Q x) → ((x : ℕ) → Q x → P x) → 0 ≡ fault
+found_same : {P Q : ℕ → Type 0} {fault : ℕ} {r : (Result ℕ Refusal)} {before after : List ℕ} → ((x : ℕ) → P x → Q x) → ((x : ℕ) → Q x → P x) → 0 ≡ fault
     → Found P 0 r before after → Found Q fault r before after
 found_same {P} {Q} {fault} {r} {before} {after} f g z w =
     subst (λ (k : ℕ). Found Q k r before after) z record { list = w.list; set = set_same f g w.set; gives = w.gives }
 
 -- a success had no fault
-done_fault : {P : ℕ → Type 0} {fault : ℕ} {before after : List ℕ} (n : ℕ) (r : Answer) → r ≡ Done n → Found P fault r before after → 0 ≡ fault
+done_fault : {P : ℕ → Type 0} {fault : ℕ} {before after : List ℕ} (n : ℕ) (r : Result ℕ Refusal) → r ≡ Ok n → Found P fault r before after → 0 ≡ fault
 done_fault {P} {fault} {before} n r e f =
     ⊎_elim (λ (z : eqb fault 0 ≡ true). sym (eqb-true fault 0 z))
     (λ (z : eqb fault 0 ≡ false). let s : 0 ≡ (fitted fault (length before) f.list).number = ap answer_number (sym e) ∙ f.gives.number in
@@ -125,7 +124,7 @@ same_lent : (fault g : ℕ) (strings types co out : List ℕ) (l : Lists)
 unfolding lent_fault
 same_lent fault g strings types co out l = refl
 
-found_out : {P : ℕ → Type 0} {fault fault' : ℕ} {r : Answer} {co out after : List ℕ} → fault ≡ fault' → length co ≡ length out
+found_out : {P : ℕ → Type 0} {fault fault' : ℕ} {r : (Result ℕ Refusal)} {co out after : List ℕ} → fault ≡ fault' → length co ≡ length out
     → Found P fault r co after → Found P fault' r out after
 found_out {P} {fault} {fault'} {r} {co} {out} {after} e l g =
     let w : Found P fault' r co after = subst (λ (n : ℕ). Found P n r co after) e g in
@@ -149,7 +148,7 @@ module _ (k : Asked) where
 
   pub exit_fault : (why : Refusal) → refusal_number why ≡ asked_fault k → {before after : SearchWords}
       → after.strings ≡ zeros (length before.strings)
-      → after.types ≡ zeros (length before.types) → after.methods ≡ zeros (length before.methods) → Searched k (Refused why) before after
+      → after.types ≡ zeros (length before.types) → after.methods ≡ zeros (length before.methods) → Searched k (Err why) before after
   exit_fault why h {before} {after} zs zt zo = record {
     lists = lists_of k;
     class_owners = (owners_listed k.area k.query.class).set;
@@ -160,7 +159,7 @@ module _ (k : Asked) where
     types_cleared = zt;
   }
 
-  module _ (none : 0 ≡ asked_fault k) {strings cs' types ct' : List ℕ} {r : Answer}
+  module _ (none : 0 ≡ asked_fault k) {strings cs' types ct' : List ℕ} {r : (Result ℕ Refusal)}
       (ts : TypesSearched k.area k.query.class k.types r (type_words strings types) (type_words cs' ct')) where
     ok : Sound (length k.area.file) k.methods class (length k.query.name) k.area.keys
     ok = sound (length k.area.file) k.methods class (length k.query.name) k.area.keys none
@@ -169,8 +168,8 @@ module _ (k : Asked) where
     fault = search_fault (length k.area.file) 0 class k.area.keys
 
     -- the type search found too few words
-    pub exit_class : (why : Refusal) → r ≡ Refused why → (out : List ℕ) → out ≡ zeros (length out)
-        → Searched k (Refused LentTooShort) (search_words strings types out) (search_words cs' ct' out)
+    pub exit_class : (why : Refusal) → r ≡ Err why → (out : List ℕ) → out ≡ zeros (length out)
+        → Searched k (Err LentTooShort) (search_words strings types out) (search_words cs' ct' out)
     exit_class why h out zo =
         let t = types_found k.types k.area k.query.class in
         let p = owners_listed k.area k.query.name in
@@ -190,7 +189,7 @@ module _ (k : Asked) where
           types_cleared = found_cleared why r h ts.types;
         }
 
-    module _ (t : ℕ) (d : r ≡ Done t) where
+    module _ (t : ℕ) (d : r ≡ Ok t) where
       same : length cs' ≡ length strings
       same = zeros_length (length strings) cs' ts.cleared
 
@@ -209,7 +208,7 @@ module _ (k : Asked) where
 
       -- a class that settles the result: no type was found, so no method fits
       pub exit_settled : settles class t ≡ true → (out : List ℕ) → out ≡ zeros (length out)
-          → Searched k (Done 0) (search_words strings types out) (search_words cs' ct' out)
+          → Searched k (Ok 0) (search_words strings types out) (search_words cs' ct' out)
       exit_settled y out zo =
           let g = settled_by class t y in
           let none_found : (x : ℕ) → TypeFound k.area k.query.class k.types x → ⊥ =
@@ -225,12 +224,12 @@ module _ (k : Asked) where
             types_cleared = whole.words ∙ ap (padded (length types)) (no_words _ (whole.count ∙ g.1)) ∙ padded_none (length types);
           }
 
-      module _ (y : settles class t ≡ false) {cs'' : List ℕ} {r' : Answer}
+      module _ (y : settles class t ≡ false) {cs'' : List ℕ} {r' : (Result ℕ Refusal)}
           (f : Found (Owns k.area k.query.name) (search_fault (length k.area.file) 0 (length k.query.name) k.area.keys) r' cs' cs'') where
         -- the search for the name found too few words
-        pub exit_name : (why : Refusal) → r' ≡ Refused why → (ct'' : List ℕ) → ct'' ≡ zeros (length ct') → length ct' ≡ length types → (out : List ℕ)
+        pub exit_name : (why : Refusal) → r' ≡ Err why → (ct'' : List ℕ) → ct'' ≡ zeros (length ct') → length ct' ≡ length types → (out : List ℕ)
             → out ≡ zeros (length out)
-            → Searched k (Refused LentTooShort) (search_words strings types out) (search_words cs'' ct'' out)
+            → Searched k (Err LentTooShort) (search_words strings types out) (search_words cs'' ct'' out)
         exit_name why h ct'' zt kept out zo =
             let p = owners_listed k.area k.query.name in
             let l : length cs' ≡ length strings = same in
@@ -247,7 +246,7 @@ module _ (k : Asked) where
               types_cleared = zt ∙ ap zeros kept;
             }
 
-        module _ (n : ℕ) (b : r' ≡ Done n) where
+        module _ (n : ℕ) (b : r' ≡ Ok n) where
           pub chosen : (out : List ℕ) → out ≡ zeros (length out) → Chosen t n (search_words cs'' ct' out)
           chosen out zo = record {
             types_fit = held_fit ts.types t d;
@@ -256,8 +255,8 @@ module _ (k : Asked) where
             clear = zo;
           }
 
-          pub exit_select : {cs''' ct'' : List ℕ} {r'' : Answer} {out out' : List ℕ}
-              → Selected (sieve_of k (take t ct') (take n cs'')) k.methods.size r'' (search_words cs'' ct' out) (search_words cs''' ct'' out')
+          pub exit_select : {cs''' ct'' : List ℕ} {r'' : (Result ℕ Refusal)} {out out' : List ℕ}
+              → Selected (sieve_for k (take t ct') (take n cs'')) k.methods.size r'' (search_words cs'' ct' out) (search_words cs''' ct'' out')
               → length ct' ≡ length types → length cs'' ≡ length cs' → Searched k r'' (search_words strings types out) (search_words cs''' ct'' out')
           exit_select {cs'''} {ct''} {r''} {out} {out'} g kt kn =
               let s : length cs' ≡ length strings = same in
@@ -278,7 +277,7 @@ module _ (k : Asked) where
               }
 
 -- the same of lists of the same length
-pub searched_out : {k : Asked} {r : Answer} {strings types co : List ℕ} {after : SearchWords} (out : List ℕ) → length co ≡ length out
+pub searched_out : {k : Asked} {r : (Result ℕ Refusal)} {strings types co : List ℕ} {after : SearchWords} (out : List ℕ) → length co ≡ length out
     → Searched k r (search_words strings types co) after → Searched k r (search_words strings types out) after
 searched_out {k} {r} {strings} {types} {co} {after} out l g = record {
   lists = g.lists;

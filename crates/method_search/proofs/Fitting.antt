@@ -1,6 +1,7 @@
 -- Methods that fit, from one on: that method, if it fits, and those after it. Whether one fits can be told, so they have a rising
 -- list; and with the types and strings found they are the methods found.
 -- Assumes nothing.
+use Rattle.std.specs.Prelude.{Option, Some, None}
 use Prim.Native.Nat.{ℕ, zero, suc, ◌+◌, ◌≤◌, ◌<◌}
 use native.Mathlib.Omega.{arith}
 use mathlib.Core.Path.{◌≡◌, refl, sym, subst}
@@ -13,16 +14,14 @@ use borrow.Author.Tests.{lt-ltb, le-ltb, ltb-true, eqb-true, eqb-false}
 use Rattle.words.proofs.Shared.{case}
 use Rattle.dalvik.specs.Ids.{method_class_idx, method_name_idx}
 use Rattle.word_set.specs.Sets.{In, SetOf}
-use Rattle.word_set.specs.Steps.{Decides, Matched}
-use Rattle.word_set.specs.declared.Insertion.{Insertion}
-use Rattle.word_set.specs.declared.Insertion.TheVariants.{Held, Full}
+use Rattle.word_set.specs.Steps.{Matched}
 use Rattle.word_set.proofs.Sets.{below_or_not, in_none, in_here, in_cons, in_cases, Listed, set_none, set_with, set_same}
 use Rattle.word_set.proofs.Collected.{Collected, collect_pass, collect_insert, collect_full}
 use Rattle.string_search.specs.Search.{Owns}
 use Rattle.string_search.proofs.Listing.{owners_listed}
 use Rattle.type_search.specs.Types.{TypeFound}
 use Rattle.type_search.proofs.Types.{types_found}
-use Rattle.method_search.specs.Steps.{Among, Sieve, sieve, Fits, Fitting, asked_count, Stepped, joined, passed}
+use Rattle.method_search.specs.Steps.{Among, Sieve, sieve_for, Fits, Fitting, asked_count, Stepped, joined, passed}
 use Rattle.method_search.specs.Methods.{Asked, MethodFound}
 
 in_or_not : (x : ℕ) (xs : List ℕ) → In x xs ⊎ (In x xs → ⊥)
@@ -38,22 +37,6 @@ among_or_not true xs x = ⊎_elim (λ (i : In x xs). inl (λ _. i)) (λ (n : In 
 among_or_not false xs x = inl (λ e. absurd (let z : ◌≡◌ {A = ℕ} 0 1 = cc in omega arith))
 
 module _ (v : Sieve) where
-  -- both tests of a method, with its class_idx and name_idx as they were read
-  module _ (i x : ℕ) (ex : x ≡ method_class_idx v.file v.off i) (r : Bool) (d : Decides (Among v.by_class v.types x) r) where
-    pub class_other : r ≡ false → Decides (Fits v i) false
-    class_other e =
-        record {
-          yes = λ h. absurd (let z : ◌≡◌ {A = ℕ} 0 1 = cc in omega arith);
-          no = λ h f. d.no e (subst (Among v.by_class v.types) (sym ex) f.class);
-        }
-
-    pub class_fits : r ≡ true → (y : ℕ) → y ≡ method_name_idx v.file v.off i → (t : Bool) → Decides (Among v.by_name v.names y) t
-        → Decides (Fits v i) t
-    class_fits e y ey t g = record {
-      yes = λ h. record { class = subst (Among v.by_class v.types) ex (d.yes e); name = subst (Among v.by_name v.names) ey (g.yes h) };
-      no = λ h f. g.no h (subst (Among v.by_name v.names) (sym ey) f.name);
-    }
-
   fits_or_not : (i : ℕ) → Fits v i ⊎ (Fits v i → ⊥)
   fits_or_not i =
       ⊎_elim (λ (a : Among v.by_class v.types (method_class_idx v.file v.off i)). ⊎_elim
@@ -104,19 +87,19 @@ module _ (v : Sieve) where
     here i h f = (omega arith, record { below = h; fits = f })
 
     module _ {room n i : ℕ} {out : List ℕ} (c : Collected (Fitting v count) (λ x. From i x) room n out) (h : i < count) where
-      pub turn : {m : ℕ} {after : List ℕ} {r : Insertion} → Stepped (Fits v i) i n out after r → r ≡ Held m
+      pub turn : {m : ℕ} {after : List ℕ} {r : (Option ℕ)} → Stepped (Fits v i) i n out after r → r ≡ Some m
           → Collected (Fitting v count) (λ x. From (i + 1) x) room m after
       turn {m} {after} {r} (joined a ins) e = collect_insert c (later i) i (here i h a) after r ins m (cases i) e
       turn {m} {after} {r} (passed a w b) e =
           collect_pass c (later i)
           (λ x d. ⊎_elim (λ (g : x ≡ i). absurd (a (subst (Fits v) g d.1.fits))) (λ (g : From (i + 1) x). g) (cases i x d)) w b e
 
-      pub no_room : {after : List ℕ} {r : Insertion} → Stepped (Fits v i) i n out after r → r ≡ Full
+      pub no_room : {after : List ℕ} {r : (Option ℕ)} → Stepped (Fits v i) i n out after r → r ≡ None
           → (l : List ℕ) → SetOf (Fitting v count) l → room < length l
       no_room {after} {r} (joined a ins) e = collect_full c (later i) i (here i h a) after r ins e
       no_room {after} {r} (passed a w b) e = absurd (let z : ◌≡◌ {A = ℕ} 0 1 = cc in omega arith)
 
-pub recount : {v : Sieve} {count count' : ℕ} {out out' : List ℕ} {r : Insertion} → count ≡ count' → Matched (Fitting v count) out out' r
+pub recount : {v : Sieve} {count count' : ℕ} {out out' : List ℕ} {r : (Option ℕ)} → count ≡ count' → Matched (Fitting v count) out out' r
     → Matched (Fitting v count') out out' r
 recount {v} {count} {count'} {out} {out'} {r} e m = subst (λ (k : ℕ). Matched (Fitting v k) out out' r) e m
 
@@ -125,13 +108,10 @@ pub from_start : {P : ℕ → Type 0} {room : ℕ} {out : List ℕ} → Collecte
 from_start c = record { kept = c.kept; sound = c.sound; rest = λ x q. q.1; complete = λ x p. inr (omega arith, p) }
 
 -- the methods found
-abbrev pub sieve_of : Asked → List ℕ → List ℕ → Sieve
-sieve_of k types names = sieve k.area.file k.methods.off (ltb 0 (length k.query.class)) types (ltb 0 (length k.query.name)) names
-
 module _ (k : Asked) where
   module _ (types names : List ℕ) (t : SetOf (TypeFound k.area k.query.class k.types) types) (o : SetOf (Owns k.area k.query.name) names) where
     abbrev Fit : ℕ → Type 0
-    Fit x = Fitting (sieve_of k types names) (asked_count k.methods.size (ltb 0 (length k.query.class)) (ltb 0 (length k.query.name))) x
+    Fit x = Fitting (sieve_for k types names) (asked_count k.methods.size (ltb 0 (length k.query.class)) (ltb 0 (length k.query.name))) x
 
     some_asked : (x : ℕ) → x < asked_count k.methods.size (ltb 0 (length k.query.class)) (ltb 0 (length k.query.name))
         → (x < k.methods.size) × (0 < length k.query.class + length k.query.name)
@@ -177,7 +157,7 @@ module _ (k : Asked) where
     listed_here : Listed (MethodFound k)
     listed_here =
         let l =
-        fitting_listed (sieve_of k types names)
+        fitting_listed (sieve_for k types names)
         (asked_count k.methods.size (ltb 0 (length k.query.class)) (ltb 0 (length k.query.name))) in
         record { list = l.list; set = set_same found_fit fit_found l.set }
 

@@ -1,5 +1,6 @@
 -- The small steps: membership in a rising list, and the faults before the search.
 -- Assumes nothing.
+use Rattle.std.specs.Prelude.{Result}
 use Prim.Native.Nat.{ℕ, ◌≤◌, ◌<◌, max}
 use native.Mathlib.Omega.{arith}
 use mathlib.Core.Path.{◌≡◌, sym, subst, ◌∙◌}
@@ -14,7 +15,6 @@ use Rattle.refusal.specs.declared.Refusal.{Refusal}
 use Rattle.refusal.specs.Refusals.{refusal_number, is_too_large, largest_file}
 use Rattle.tinydex.specs.declared.Table.{Table}
 use Rattle.groups.specs.Built.{passes}
-use Rattle.refusal.specs.declared.Answer.{Answer}
 use Rattle.word_set.specs.Found.{Found}
 use Rattle.words.specs.Rising.{Rising}
 use Rattle.word_set.specs.Sets.{Contains}
@@ -31,12 +31,6 @@ pub asked_among : (xs : List ℕ) (x : ℕ) (asked r : Bool) → asked ≡ true 
 asked_among xs x asked r a up c = record {
   yes = λ e _. is_in xs x c.at up c.place (sym c.is ∙ e);
   no = λ e m. not_in xs x c.at up c.place (sym c.is ∙ e) (m a);
-}
-
-pub not_asked : (xs : List ℕ) (x : ℕ) (asked : Bool) → asked ≡ false → Decides (Among asked xs x) true
-not_asked xs x asked a = record {
-  yes = λ e m. absurd (let z : ◌≡◌ {A = ℕ} 0 1 = cc in omega arith);
-  no = λ e. absurd (let z : ◌≡◌ {A = ℕ} 0 1 = cc in omega arith);
 }
 
 -- faults
@@ -84,5 +78,5 @@ pub same_fault : (len n : ℕ) (ks : List ℕ) → (n ≡ 0 → ⊥) → search_
 unfolding search_fault
 same_fault len n ks z = rw (le-ltb n 1 (omega arith), le-ltb n 0 (omega arith))
 
-pub found_fault : {P : ℕ → Type 0} {f g : ℕ} {r : Answer} {before after : List ℕ} → f ≡ g → Found P f r before after → Found P g r before after
+pub found_fault : {P : ℕ → Type 0} {f g : ℕ} {r : (Result ℕ Refusal)} {before after : List ℕ} → f ≡ g → Found P f r before after → Found P g r before after
 found_fault {P} {f} {g} {r} {before} {after} e w = subst (λ (k : ℕ). Found P k r before after) e w

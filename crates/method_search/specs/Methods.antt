@@ -1,9 +1,9 @@
 -- What method search finds: SPEC, Searches (`locate` of method_locator.rs for substring queries).
 -- Assumes nothing.
-use Rattle.std.specs.Prelude.{ℕ, ◌+◌, ◌<◌, max, ◌≡◌, Bool, cond, ◌&&◌, List, length, eqb, ltb}
+use Rattle.refusal.specs.declared.Refusal.{Refusal}
+use Rattle.std.specs.Prelude.{ℕ, ◌+◌, ◌<◌, max, ◌≡◌, Bool, cond, ◌&&◌, List, length, eqb, ltb, Result}
 use Rattle.words.specs.Padded.{zeros}
 use Rattle.dalvik.specs.Ids.{method_id_size, method_class_idx, method_name_idx}
-use Rattle.refusal.specs.declared.Answer.{Answer}
 use Rattle.tinydex.specs.declared.Table.{Table}
 use Rattle.groups.specs.Built.{GroupWords, passes}
 use Rattle.word_set.specs.Sets.{SetOf}
@@ -73,7 +73,7 @@ lent_fault fault class before l =
     cond (settles class (length l.of_types)) by-types (or_short by-types (length before.strings) l.of_name)
 
 -- the answer and the methods; 4 also for the words lent to work in, which are zero afterwards
-pub record Searched (k : Asked) (r : Answer) (before after : SearchWords) : Type 0 where
+pub record Searched (k : Asked) (r : Result ℕ Refusal) (before after : SearchWords) : Type 0 where
   pub lists : Lists
   pub class_owners : SetOf (Owns k.area k.query.class) lists.of_class
   pub class_types : SetOf (TypeFound k.area k.query.class k.types) lists.of_types

@@ -9,34 +9,63 @@ ghost use Rattle.groups.specs.Built.{group_words};
 ghost use Rattle.word_set.specs.Found.{Found, fault_number};
 ghost use Rattle.word_set.specs.Steps.{Decides, Matched};
 ghost use Rattle.string_search.specs.Search.{area, Owns, search_fault};
-ghost use Rattle.method_search.specs.Methods.{query, search_for, search_words, Searched, method_fault, settles};
-ghost use Rattle.method_search.specs.Steps.{Begun, Among, sieve, Fits, Fitting, asked_count, Risen, Stepped, Chosen, Selected};
+ghost use Rattle.method_search.specs.Methods.{query, search_for, search_words, Searched, asked_fault, settles};
+ghost use Rattle.method_search.specs.Steps.{asked_of, lent_words, SameLent, Begun, Chosen, Selected};
+ghost use Rattle.method_search.specs.Steps.{Among, sieve_of, sieve_for, Fits, Fitting, asked_count, Risen, Stepped};
 
-use refusal::{Answer, Refusal};
+use refusal::Refusal;
 use tinydex::{DexHeader, Table};
-use word_set::{Fault, Insertion};
 
-// The longer of two lengths.
-fn longer(a: usize, b: usize) -> usize
-    ensures { result ≡ max a b }
-{
-    if a < b { b } else { a }
+// The method ids at `off` of a file, and what they are to have: a class_idx among the types and a name_idx among the names, each if it
+// is asked for.
+#[derive(Clone, Copy)]
+struct Wanted<'a> {
+    file: &'a [u8],
+    off: u32,
+    by_class: bool,
+    types: &'a [u32],
+    by_name: bool,
+    names: &'a [u32],
+}
+
+// What is sought, and where: a class and a name, by the keys of a file's strings, in its text from `start` on and before `end`; the types
+// by their strings; and the method ids.
+#[derive(Clone, Copy)]
+struct Sought<'a> {
+    file: &'a [u8],
+    keys: &'a [u64],
+    start: usize,
+    end: usize,
+    class: &'a [u8],
+    name: &'a [u8],
+    str_offsets: &'a [u32],
+    type_idxs: &'a [u32],
+    methods: Table,
+}
+
+// The words lent to a search: for the strings and the types found, and for the methods.
+#[derive(Drop)]
+struct Lent<'a> {
+    strings: &'a mut [u32],
+    types: &'a mut [u32],
+    out: &'a mut [u32],
 }
 
 // What speaks against the search before it begins.
-fn method_fault(file: &[u8], methods: Table, keys: &[u64], class: &[u8], name: &[u8]) -> Fault
-    ensures { let class-bytes = length class.now in
-        let name-bytes = length name.now in
-        fault_number result ≡ method_fault (length file.now) methods class-bytes name-bytes keys.now }
+fn method_fault(sought: &Sought) -> Result<(), Refusal>
+    ensures { fault_number result ≡ asked_fault (asked_of sought.now) }
 {
-    let fault = string_search::search_fault(file, 0, longer(class.len(), name.len()), keys);
-    if let Fault::Refused(why) = fault {
-        return Fault::Refused(why);
+    let file = sought.file;
+    string_search::search_fault(
+        file,
+        0,
+        sought.class.len().max(sought.name.len()),
+        sought.keys,
+    )?;
+    if groups::passes_end(file.len(), sought.methods, 8) {
+        return Err(Refusal::TableOutside);
     }
-    if groups::passes_end(file.len(), methods, 8) {
-        return Fault::Refused(Refusal::TableOutside);
-    }
-    Fault::Nothing
+    Ok(())
 }
 
 // Whether an index is among those found, or nothing was asked.
@@ -44,224 +73,147 @@ fn among(asked: bool, found: &[u32], index: u32) -> bool
     requires { Rising found.now }
     ensures { Decides (Among asked found.now index) result }
 {
-    if asked {
-        return word_set::contains(found, index);
-    }
-    true
+    !asked || word_set::contains(found, index)
 }
 
 // Whether the method i fits.
-fn method_fits(
-    file: &[u8],
-    off: u32,
-    i: u32,
-    by_class: bool,
-    types: &[u32],
-    by_name: bool,
-    names: &[u32],
-) -> bool
-    requires { Risen types.now names.now }
-    ensures { let fits = Fits (sieve file.now off by_class types.now by_name names.now) i in
-        Decides fits result }
+fn method_fits(wanted: &Wanted, i: u32) -> bool
+    requires { Risen wanted.now.types.now wanted.now.names.now }
+    ensures { Decides (Fits (sieve_of wanted.now) i) result }
 {
-    let at = (off as usize) + 8 * (i as usize);
-    if among(by_class, types, structs::u16_at(file, at)) {
-        return among(by_name, names, structs::u32_at(file, at + 4));
-    }
-    false
+    let at = (wanted.off as usize) + 8 * (i as usize);
+    among(
+        wanted.by_class,
+        wanted.types,
+        structs::u16_at(wanted.file, at),
+    ) && among(
+        wanted.by_name,
+        wanted.names,
+        structs::u32_at(wanted.file, at + 4),
+    )
 }
 
 // One method: it joins the n words held if it fits.
-fn method_step(
-    file: &[u8],
-    off: u32,
-    i: u32,
-    by_class: bool,
-    types: &[u32],
-    by_name: bool,
-    names: &[u32],
-    out: &mut [u32],
-    n: usize,
-) -> Insertion
-    requires { Risen types.now names.now }
-    ensures { let fits = Fits (sieve file.now off by_class types.now by_name names.now) i in
-        Stepped fits i n out.old out.new result }
+fn method_step(wanted: &Wanted, i: u32, out: &mut [u32], n: usize) -> Option<usize>
+    requires { Risen wanted.now.types.now wanted.now.names.now }
+    ensures { Stepped (Fits (sieve_of wanted.now) i) i n out.old out.new result }
 {
-    if method_fits(file, off, i, by_class, types, by_name, names) {
+    if method_fits(wanted, i) {
         return word_set::insert(out, n, i);
     }
-    Insertion::Held(n)
+    Some(n)
 }
 
 // How many methods are looked at: none where neither class nor name is given.
 fn asked_count(size: u32, by_class: bool, by_name: bool) -> u32
     ensures { result ≡ asked_count size by_class by_name }
 {
-    if by_class {
-        return size;
-    }
-    if by_name {
-        return size;
-    }
-    0
+    if by_class || by_name { size } else { 0 }
 }
 
-// All methods that fit.
-fn collect(
-    file: &[u8],
-    methods: Table,
-    by_class: bool,
-    types: &[u32],
-    by_name: bool,
-    names: &[u32],
-    out: &mut [u32],
-) -> Insertion
-    requires { Risen types.now names.now × (out.old ≡ zeros (length out.old)) }
-    ensures { let fits = sieve file.now methods.off by_class types.now by_name names.now in
-        Matched (Fitting fits (asked_count methods.size by_class by_name)) out.old out.new result }
+// All methods that fit, of a table of `size`.
+fn collect(wanted: &Wanted, size: u32, out: &mut [u32]) -> Option<usize>
+    requires { Risen wanted.now.types.now wanted.now.names.now × (out.old ≡ zeros (length out.old)) }
+    ensures { Matched (Fitting (sieve_of wanted.now) (asked_count size wanted.now.by_class wanted.now.by_name)) out.old out.new result }
 {
-    let off = methods.off;
-    let count = asked_count(methods.size, by_class, by_name);
-    let mut i: u32 = 0;
+    let count = asked_count(size, wanted.by_class, wanted.by_name);
     let mut n = 0;
-    while i < count {
-        let Insertion::Held(m) = method_step(file, off, i, by_class, types, by_name, names, out, n)
-        else {
-            return Insertion::Full;
-        };
-        n = m;
-        i += 1;
+    for i in 0..count {
+        n = method_step(wanted, i, out, n)?;
     }
-    Insertion::Held(n)
+    Some(n)
 }
 
-// The strings that own a find of a name; the empty name finds nothing.
-fn locate_name(
-    file: &[u8],
-    keys: &[u64],
-    start: usize,
-    end: usize,
-    name: &[u8],
-    names: &mut [u32],
-) -> Answer
-    ensures { let searched = area file.now keys.now start end in
-        let fault = search_fault (length file.now) 0 (length name.now) keys.now in
-        Found (Owns searched name.now) fault result names.old names.new }
+// The strings that own a find of the name; the empty name finds nothing.
+fn locate_name(sought: &Sought, names: &mut [u32]) -> Result<usize, Refusal>
+    ensures { let k = asked_of sought.now in
+        let fault = search_fault (length k.area.file) 0 (length k.query.name) k.area.keys in
+        Found (Owns k.area k.query.name) fault result names.old names.new }
 {
-    if name.len() == 0 {
+    let name = sought.name;
+    if name.is_empty() {
         words::clear(names);
-        let fault = string_search::search_fault(file, 0, name.len(), keys);
-        if let Fault::Refused(why) = fault {
-            return Answer::Refused(why);
-        }
-        return Answer::Done(0);
+        string_search::search_fault(sought.file, 0, name.len(), sought.keys)?;
+        return Ok(0);
     }
-    string_search::locate(file, keys, start, end, name, names)
+    string_search::locate(
+        sought.file,
+        sought.keys,
+        sought.start,
+        sought.end,
+        name,
+        names,
+    )
 }
 
 // The methods that fit the t types and n strings found. The words lent for these are zero afterwards.
-fn select(
-    file: &[u8],
-    methods: Table,
-    by_class: bool,
-    of_class: &mut [u32],
-    t: usize,
-    by_name: bool,
-    of_name: &mut [u32],
-    n: usize,
-    out: &mut [u32],
-) -> Answer
-    requires { Chosen t n (search_words of_name.old of_class.old out.old) }
-    ensures { let types = take t of_class.old in
-        let names = take n of_name.old in
-        let fits = sieve file.now methods.off by_class types by_name names in
-        let before = search_words of_name.old of_class.old out.old in
-        let after = search_words of_name.new of_class.new out.new in
-        Selected fits methods.size result before after }
+fn select(sought: &Sought, t: usize, n: usize, lent: &mut Lent) -> Result<usize, Refusal>
+    requires { Chosen t n (lent_words lent.old) }
+    ensures selected { let k = asked_of sought.now in
+        let before = lent_words lent.old in
+        let fits = sieve_for k (take t before.types) (take n before.strings) in
+        Selected fits k.methods.size result before (lent_words lent.new) }
+    ensures same_lent { SameLent lent.old lent.new }
 {
-    let found = collect(
-        file,
-        methods,
-        by_class,
-        &of_class[..t],
-        by_name,
-        &of_name[..n],
-        out,
-    );
+    let of_class = &mut *lent.types;
+    let of_name = &mut *lent.strings;
+    let out = &mut *lent.out;
+    let wanted = Wanted {
+        file: sought.file,
+        off: sought.methods.off,
+        by_class: 0 < sought.class.len(),
+        types: &of_class[..t],
+        by_name: 0 < sought.name.len(),
+        names: &of_name[..n],
+    };
+    let found = collect(&wanted, sought.methods.size, out);
     words::clear(of_class);
     words::clear(of_name);
-    let Insertion::Held(m) = found else {
+    let Some(m) = found else {
         words::clear(out);
-        return Answer::Refused(Refusal::LentTooShort);
+        return Err(Refusal::LentTooShort);
     };
-    Answer::Done(m)
+    Ok(m)
 }
 
 // Whether a class of `class` bytes whose strings name `types` types settles the result: it is given, and no method fits.
 fn settled(class: usize, types: usize) -> bool
     ensures { result ≡ settles class types }
 {
-    if 0 < class { types == 0 } else { false }
+    0 < class && types == 0
 }
 
 // The search itself, where nothing speaks against it and `out` is zero.
-fn search(
-    file: &[u8],
-    methods: Table,
-    keys: &[u64],
-    start: usize,
-    end: usize,
-    class: &[u8],
-    name: &[u8],
-    str_offsets: &[u32],
-    type_idxs: &[u32],
-    strings: &mut [u32],
-    types: &mut [u32],
-    out: &mut [u32],
-) -> Answer
-    requires { let searched = area file.now keys.now start end in
-        let table = group_words str_offsets.now type_idxs.now in
-        Begun (search_for searched (query class.now name.now) table methods) out.old }
-    ensures { let searched = area file.now keys.now start end in
-        let table = group_words str_offsets.now type_idxs.now in
-        let before = search_words strings.old types.old out.old in
-        let after = search_words strings.new types.new out.new in
-        Searched (search_for searched (query class.now name.now) table methods) result before after }
+fn search(sought: &Sought, lent: &mut Lent) -> Result<usize, Refusal>
+    requires { Begun (asked_of sought.now) lent.old.out.now }
+    ensures searched { Searched (asked_of sought.now) result (lent_words lent.old) (lent_words lent.new) }
+    ensures same_lent { SameLent lent.old lent.new }
 {
-    let Answer::Done(t) = type_search::locate(
-        file,
-        keys,
-        start,
-        end,
-        class,
-        str_offsets,
-        type_idxs,
-        strings,
-        types,
+    let Ok(t) = type_search::locate(
+        sought.file,
+        sought.keys,
+        sought.start,
+        sought.end,
+        sought.class,
+        sought.str_offsets,
+        sought.type_idxs,
+        lent.strings,
+        lent.types,
     ) else {
-        return Answer::Refused(Refusal::LentTooShort);
+        return Err(Refusal::LentTooShort);
     };
-    if settled(class.len(), t) {
-        return Answer::Done(0);
+    if settled(sought.class.len(), t) {
+        return Ok(0);
     }
-    let Answer::Done(n) = locate_name(file, keys, start, end, name, strings) else {
-        words::clear(types);
-        return Answer::Refused(Refusal::LentTooShort);
+    let Ok(n) = locate_name(sought, lent.strings) else {
+        words::clear(lent.types);
+        return Err(Refusal::LentTooShort);
     };
-    select(
-        file,
-        methods,
-        0 < class.len(),
-        types,
-        t,
-        0 < name.len(),
-        strings,
-        n,
-        out,
-    )
+    select(sought, t, n, lent)
 }
 
 // The methods that fit. `strings` and `types` are lent for the strings and types found, and are zero afterwards.
+// Kept: the slices are parameters of their own, as `ringlinden_method_search` of C lends them.
 pub fn locate(
     file: &[u8],
     header: DexHeader,
@@ -275,7 +227,7 @@ pub fn locate(
     strings: &mut [u32],
     types: &mut [u32],
     out: &mut [u32],
-) -> Answer
+) -> Result<usize, Refusal>
     ensures gives { let searched = area file.now keys.now start end in
         let table = group_words str_offsets.now type_idxs.now in
         let before = search_words strings.old types.old out.old in
@@ -283,16 +235,8 @@ pub fn locate(
         Searched (search_for searched (query class.now name.now) table header.methods) result before after }
 {
     words::clear(out);
-    let methods = header.methods;
-    let fault = method_fault(file, methods, keys, class, name);
-    if let Fault::Refused(why) = fault {
-        words::clear(strings);
-        words::clear(types);
-        return Answer::Refused(why);
-    }
-    search(
+    let sought = Sought {
         file,
-        methods,
         keys,
         start,
         end,
@@ -300,8 +244,19 @@ pub fn locate(
         name,
         str_offsets,
         type_idxs,
-        strings,
-        types,
-        out,
+        methods: header.methods,
+    };
+    if let Err(why) = method_fault(&sought) {
+        words::clear(strings);
+        words::clear(types);
+        return Err(why);
+    }
+    search(
+        &sought,
+        &mut Lent {
+            strings,
+            types,
+            out,
+        },
     )
 }

@@ -1,5 +1,6 @@
 -- The faults of the filter, a law for each way out.
 -- Assumes nothing.
+use Rattle.std.specs.Prelude.{Result, Ok, Err}
 use Prim.Native.Nat.{ℕ, ◌+◌, ◌≤◌, ◌<◌}
 use native.Mathlib.Numerals.{add-one}
 use native.Mathlib.Omega.{arith}
@@ -25,8 +26,6 @@ use Rattle.name_filter.specs.HasName.{is_ascii, HasName}
 use Rattle.name_filter.proofs.HasName.{has_empty_of}
 use Rattle.name_filter.specs.Steps.{Judged}
 use Rattle.name_filter.specs.Faults.{text_fault, first_fault, head_fault, filter_fault}
-use Rattle.name_filter.specs.declared.refusals.Verdict.{Verdict}
-use Rattle.name_filter.specs.declared.refusals.Verdict.TheVariants as v
 
 -- one string
 module _ (s : List ℕ) (asked : Bool) (f : Found) where
@@ -55,35 +54,35 @@ module _ (s : List ℕ) (asked : Bool) (f : Found) where
 
 -- the ways to judge it
 module _ (s q : List ℕ) (f : Found) where
-  pub judged_known : (b : Bool) → 0 ≡ text_fault s (ltb 0 (length q)) f → Decides (HasName (stretch_of s f) q) b → Judged s q f (v.Known b)
+  pub judged_known : (b : Bool) → 0 ≡ text_fault s (ltb 0 (length q)) f → Decides (HasName (stretch_of s f) q) b → Judged s q f (Ok b)
   judged_known b e d = record {
     known = λ b' g. (e, let k : b ≡ b' = cc in subst (Decides (HasName (stretch_of s f) q)) k d);
     refused = λ why g. absurd (let z : ◌≡◌ {A = ℕ} 0 1 = cc in omega arith);
   }
 
-  pub judged_refused : (why : Refusal) → refusal_number why ≡ text_fault s (ltb 0 (length q)) f → Judged s q f (v.Refused why)
+  pub judged_refused : (why : Refusal) → refusal_number why ≡ text_fault s (ltb 0 (length q)) f → Judged s q f (Err why)
   judged_refused why e = record {
     known = λ b g. absurd (let z : ◌≡◌ {A = ℕ} 0 1 = cc in omega arith);
     refused = λ why' g. let k : why ≡ why' = cc in sym (ap refusal_number k) ∙ e;
   }
 
-pub judged_at : {s q : List ℕ} {f f' : Found} {r : Verdict} → f ≡ f' → Judged s q f r → Judged s q f' r
+pub judged_at : {s q : List ℕ} {f f' : Found} {r : (Result Bool Refusal)} → f ≡ f' → Judged s q f r → Judged s q f' r
 judged_at {s} {q} {f} {f'} {r} e j = subst (λ (g : Found). Judged s q g r) e j
 
 -- a text that was found
 module _ (s q : List ℕ) (a n : ℕ) where
-  pub judged_empty : length q < 1 → Judged s q (found a n) (v.Known true)
+  pub judged_empty : length q < 1 → Judged s q (found a n) (Ok true)
   judged_empty h =
       judged_known s q (found a n) true (text_any s (ltb 0 (length q)) (found a n) a n refl (le-ltb 0 (length q) (omega arith))) record
       { yes = λ e. has_empty_of (stretch_of s (found a n)) q (omega arith); no = λ e. absurd (let z : ◌≡◌ {A = ℕ} 0 1 = cc in omega arith) }
 
   module _ (text : List ℕ) (t : text ≡ stretch_of s (found a n)) where
-    pub judged_ascii : (b : Bool) → is_ascii text ≡ true → Decides (HasName text q) b → Judged s q (found a n) (v.Known b)
+    pub judged_ascii : (b : Bool) → is_ascii text ≡ true → Decides (HasName text q) b → Judged s q (found a n) (Ok b)
     judged_ascii b g d =
         judged_known s q (found a n) b (text_ascii s (ltb 0 (length q)) (found a n) a n refl (sym (ap is_ascii t) ∙ g))
         (subst (λ (l : List ℕ). Decides (HasName l q) b) t d)
 
-    pub judged_other : 1 ≤ length q → is_ascii text ≡ false → Judged s q (found a n) (v.Refused NotAscii)
+    pub judged_other : 1 ≤ length q → is_ascii text ≡ false → Judged s q (found a n) (Err NotAscii)
     judged_other h g =
         judged_refused s q (found a n) NotAscii
         (text_not_ascii s (ltb 0 (length q)) (found a n) a n refl (lt-ltb 0 (length q) (omega arith)) (sym (ap is_ascii t) ∙ g))

@@ -5,33 +5,53 @@ use native.Mathlib.Numerals.{add-one}
 use native.Mathlib.Omega.{arith}
 use mathlib.Core.Path.{◌≡◌, refl, sym, subst, ◌∙◌}
 use mathlib.Core.Logic.{◌⊎◌, inl, inr, ⊎_elim}
-use mathlib.Core.Bool.{true, false}
+use mathlib.Core.Bool.{Bool, true, false}
 use mathlib.Core.List.{List, [], ◌∷◌, map}
-use lib.ListN.{length, get_or, drop, length-map, get_or-map, drop_of_length-le}
+use lib.Dec.{ltb}
+use lib.ListN.{length, get_or, take, drop, length-map, get_or-map, drop_of_length-le}
 use lib.Seq.{drop-cons}
 use lib.Bits.{bit_or, or_add_and, and_le_l, and_le_r, or_lt}
 use borrow.Author.Tests.{lt-ltb, le-ltb, le-leb, lt-leb}
 use borrow.Author.Count.{below_more}
-use Rattle.byte_search.specs.First.{Either, First}
+use Rattle.std.specs.Prelude.{IsTrue, ◌↔◌}
+use Rattle.std.specs.Char.{to_ascii_lowercase, to_ascii_uppercase}
+use Rattle.std.proofs.lemmas.List.{take-map, drop-map}
+use Rattle.word_set.specs.Steps.{Decides}
+use Rattle.byte_search.specs.First.{Is, Either, First}
 use Rattle.byte_search.proofs.Firsts.{onward}
 use Rattle.word_set.proofs.Sets.{below_or_not}
 use Rattle.byte_search.specs.Occurs.{Stands}
-use Rattle.byte_search.proofs.Occurs.{stands_bytes, byte_stands}
-use Rattle.name_filter.specs.Steps.{Capital}
+use Rattle.byte_search.proofs.Occurs.{byte_stands}
 use Rattle.name_filter.specs.HasName.{lower_case, is_ascii, HasName}
 
 module _ (b : ℕ) where
-  pub lower_letter : 0x41 ≤ b → b ≤ 0x5a → b + 32 ≡ lower_case b
+  lower_letter : 0x41 ≤ b → b ≤ 0x5a → b + 32 ≡ lower_case b
   unfolding lower_case
   lower_letter h k = rw (le-leb 0x41 b h, le-leb b 0x5a k)
 
-  pub lower_above : 0x5a < b → b ≡ lower_case b
+  lower_above : 0x5a < b → b ≡ lower_case b
   unfolding lower_case
   lower_above k = rw (le-leb 0x41 b (omega arith), lt-leb b 0x5a k)
 
-  pub lower_below : b < 0x41 → b ≡ lower_case b
+  lower_below : b < 0x41 → b ≡ lower_case b
   unfolding lower_case
   lower_below k = rw (lt-leb 0x41 b k)
+
+  -- std's small letter is this one
+  pub lower_is : to_ascii_lowercase b ≡ lower_case b
+  lower_is =
+      ⊎_elim (λ (l : b < 0x41). rw (lt-ltb b 65 l) (lower_below l))
+      (λ (l : 0x41 ≤ b). ⊎_elim (λ (h : 0x5a < b). rw (le-ltb b 65 l, le-ltb b 91 (omega arith)) (lower_above h))
+      (λ (h : b ≤ 0x5a). rw (le-ltb b 65 l, lt-ltb b 91 (omega arith)) (lower_letter l h)) (below_or_not 0x5a b))
+      (below_or_not b 0x41)
+
+lower_all : (bs : List ℕ) → map to_ascii_lowercase bs ≡ map lower_case bs
+lower_all [] = refl
+lower_all (b ∷ bs) = rw (lower_is b, lower_all bs)
+
+-- r is the other letter that counts as the small letter b, if there is one
+pub record Capital (b r : ℕ) : Type 0 where
+  pub only : (x : ℕ) → lower_case x ≡ b → Is b r x
 
 -- what a byte was before it became a small letter
 module _ (b : ℕ) where
@@ -42,36 +62,38 @@ module _ (b : ℕ) where
       (λ (h : x ≤ 0x5a). let z : x + 32 ≡ b = lower_letter x l h ∙ e in inr (omega arith, omega arith, omega arith)) (below_or_not 0x5a x))
       (below_or_not x 0x41)
 
-  pub capital_letter : Capital b (b - 32)
+  capital_letter : Capital b (b - 32)
   capital_letter = record { only = λ x e. ⊎_elim (λ (h : x ≡ b). inl h) (λ h. inr h.2) (was x e) }
 
-  pub capital_none : (b < 0x61) ⊎ (0x7a < b) → Capital b b
+  capital_none : (b < 0x61) ⊎ (0x7a < b) → Capital b b
   capital_none k =
       record {
         only = λ x e. ⊎_elim (λ (h : x ≡ b). inl h)
             (λ h. absurd (⊎_elim (λ (l : b < 0x61). omega (arith, h.0)) (λ (l : 0x7a < b). omega (arith, h.1)) k)) (was x e);
       }
 
+  capital_is : Capital b (to_ascii_uppercase b)
+  capital_is =
+      ⊎_elim (λ (l : b < 0x61). rw (lt-ltb b 97 l) (capital_none (inl l)))
+      (λ (l : 0x61 ≤ b). ⊎_elim (λ (h : 0x7a < b). rw (le-ltb b 97 l, le-ltb b 123 (omega arith)) (capital_none (inr h)))
+      (λ (h : b ≤ 0x7a). rw (le-ltb b 97 l, lt-ltb b 123 (omega arith)) capital_letter) (below_or_not 0x7a b))
+      (below_or_not b 0x61)
+
+-- the letters that the search looks for: the small one of a byte and its capital one
+pub letters : (x a b : ℕ) → a ≡ to_ascii_lowercase x → b ≡ to_ascii_uppercase a → (a ≡ lower_case x) × Capital a b
+letters x a b e f = (e ∙ lower_is x, subst (Capital a) (sym f) (capital_is a))
+
 lower_at : (l : List ℕ) (n : ℕ) → get_or (map lower_case l) n 0 ≡ lower_case (get_or l n 0)
 unfolding lower_case
 lower_at l n = get_or-map lower_case l n 0
 
-module _ (text q : List ℕ) (p : ℕ) where
-  same_name : p + length q ≤ length text → ((k : ℕ) → k < length q → lower_case (get_or text (p + k) 0) ≡ lower_case (get_or q k 0))
-      → Stands (map lower_case text) (map lower_case q) p
-  same_name h f =
-      stands_bytes (map lower_case text) (map lower_case q) p (omega (arith, length-map text lower_case, length-map q lower_case))
-      (λ k l. lower_at text (p + k) ∙ f k (omega (arith, length-map q lower_case)) ∙ sym (lower_at q k))
-
-  pub same_upto : (n : ℕ) → p + length q ≤ length text → length q ≤ n → ((k : ℕ) → k < n → lower_case (get_or text (p + k) 0) ≡ lower_case (get_or q k 0))
-      → Stands (map lower_case text) (map lower_case q) p
-  same_upto n h l f = same_name h (λ k m. f k (omega arith))
-
-  pub other_name : (k : ℕ) → k < length q → (lower_case (get_or text (p + k) 0) ≡ lower_case (get_or q k 0) → ⊥)
-      → Stands (map lower_case text) (map lower_case q) p → ⊥
-  other_name k l n st =
-      n
-      (sym (lower_at text (p + k)) ∙ byte_stands (map lower_case text) (map lower_case q) p k (omega (arith, length-map q lower_case)) st ∙ lower_at q k)
+-- a part of the text that is the query, case ignored, is where the query stands
+pub same_name : (text q : List ℕ) (p : ℕ) {r : Bool} → (IsTrue r ↔ (map to_ascii_lowercase (take (length q) (drop p text)) ≡ map to_ascii_lowercase q))
+    → Decides (Stands (map lower_case text) (map lower_case q) p) r
+same_name text q p {r} t =
+    let l : take (length (map lower_case q)) (drop p (map lower_case text)) ≡ map to_ascii_lowercase (take (length q) (drop p text)) =
+    rw (length-map q lower_case, drop-map lower_case p text, take-map lower_case (length q) (drop p text), lower_all (take (length q) (drop p text))) in
+    record { yes = λ e. l ∙ t.0 e ∙ lower_all q; no = λ e st. let f : r ≡ true = t.1 (sym l ∙ st ∙ sym (lower_all q)) in cc }
 
 -- where a name stands, its first letter does, small or capital
 name_begins : (text q : List ℕ) (p : ℕ) {a b : ℕ} → 0 < length q → a ≡ lower_case (get_or q 0 0) → Capital a b
@@ -158,6 +180,11 @@ pub record AsciiBelow (bs : List ℕ) (i all : ℕ) : Type 0 where
 
 pub ascii_start : (bs : List ℕ) → AsciiBelow bs 0 0
 ascii_start bs = record { low = λ _. refl; high = λ h. absurd (omega arith) }
+
+pub ascii_said : (bs : List ℕ) (i all : ℕ) → length bs ≤ i → AsciiBelow bs i all → ltb all 128 ≡ is_ascii bs
+ascii_said bs i all h c =
+    ⊎_elim (λ (k : all < 128). lt-ltb all 128 k ∙ sym (ascii_end bs i h) ∙ c.low k) (λ (k : 128 ≤ all). le-ltb all 128 k ∙ sym (c.high k))
+    (below_or_not all 128)
 
 pub ascii_more : (bs : List ℕ) (i all : ℕ) → i < length bs → AsciiBelow bs i all → AsciiBelow bs (i + 1) (bit_or all (get_or bs i 0))
 ascii_more bs i all h c =

@@ -3,6 +3,7 @@
 --     passed_none, passed_next                            the given indices, one after another
 --     passed_all, passed_index, passed_fault              .. and the ways out
 -- Assumes nothing.
+use Rattle.std.specs.Prelude.{Result, Ok, Err}
 use Prim.Native.Nat.{ℕ, ◌+◌, ◌*◌, ◌≤◌, ◌<◌}
 use native.Mathlib.Omega.{arith}
 use mathlib.Core.Path.{◌≡◌, refl, ap, sym, subst, ◌∙◌}
@@ -20,8 +21,6 @@ use Rattle.refusal.proofs.Numbers.{numbered}
 use Rattle.word_set.specs.Sets.{In}
 use Rattle.word_set.proofs.Sets.{below_or_not}
 use Rattle.index_set.specs.Bits.{is_held, Adds}
-use Rattle.word_set.specs.declared.Fault.{Fault}
-use Rattle.word_set.specs.declared.Fault.TheVariants as fault
 use Rattle.word_set.specs.Steps.{Decides}
 use Rattle.word_set.specs.Found.{fault_number}
 use Rattle.name_filter.specs.Faults.{first_fault}
@@ -67,10 +66,10 @@ module _ {k : Names} where
 
   -- one string
   module _ {seen has : List ℕ} (x : ℕ) (t : Marks k seen has) where
-    pub look_known : is_held seen x ≡ true → Looked k x seen seen has fault.Nothing
+    pub look_known : is_held seen x ≡ true → Looked k x seen seen has (Ok tt)
     look_known h = record { fault = t.good x h; marks = t; now_seen = λ z. h; kept = λ y z. z; only = λ y z. inl z }
 
-    pub look_refused : (why : Refusal) → refusal_number why ≡ fault_of k x → Looked k x seen seen has (fault.Refused why)
+    pub look_refused : (why : Refusal) → refusal_number why ≡ fault_of k x → Looked k x seen seen has (Err why)
     look_refused why e = record { fault = e; marks = t; now_seen = λ z. absurd (nonzero why z); kept = λ y z. z; only = λ y z. inl z }
 
     module _ (new : is_held seen x ≡ false) (b : Bool) (e : 0 ≡ fault_of k x) (d : Decides (HasNameAt k x) b) {seen' has' : List ℕ} (n : Noted x b seen has seen' has') where
@@ -103,7 +102,7 @@ module _ {k : Names} where
             (λ (f : eqb y x ≡ false). seen_there y f ∙ t.among y (sym (has_there y f) ∙ h)) (case (eqb y x));
       }
 
-      pub look_noted : Looked k x seen seen' has' fault.Nothing
+      pub look_noted : Looked k x seen seen' has' (Ok tt)
       look_noted = record {
         fault = e;
         marks = marks_now;
@@ -116,18 +115,18 @@ module _ {k : Names} where
 -- the given indices, one after another: the ways out
 module _ {k : Names} (count : ℕ) (given : List ℕ) {seen has : List ℕ} where
   all_refused : (why : Refusal) → refusal_number why ≡ first_fault k.file count k.table (ltb 0 (length k.query)) given → Marks k seen has
-      → AllLooked k count given seen has (fault.Refused why)
+      → AllLooked k count given seen has (Err why)
   all_refused why e t = record { fault = e; marks = t; seen_all = λ z. absurd (nonzero why z) }
 
   all_none : (i : ℕ) → 0 ≡ first_fault k.file count k.table (ltb 0 (length k.query)) given → Marks k seen has → Seen given seen i
-      → length given ≤ i → AllLooked k count given seen has fault.Nothing
+      → length given ≤ i → AllLooked k count given seen has (Ok tt)
   all_none i e t n h = record { fault = e; marks = t; seen_all = λ z. record { all = λ j l. n.all j (omega arith); only = n.only } }
 
 -- .. and one step
 seen_none : (given : List ℕ) {seen : List ℕ} → ((x : ℕ) → is_held seen x ≡ false) → Seen given seen 0
 seen_none given z = record { all = λ k h. absurd (omega arith); only = λ x h. absurd (clash h (z x)) }
 
-module _ {n : Names} (given : List ℕ) (i : ℕ) {seen seen' has' : List ℕ} {r : Fault} (h : i < length given) (k : Looked n (get_or given i 0) seen seen' has' r) where
+module _ {n : Names} (given : List ℕ) (i : ℕ) {seen seen' has' : List ℕ} {r : (Result (Unit {0}) Refusal)} (h : i < length given) (k : Looked n (get_or given i 0) seen seen' has' r) where
   seen_next : fault_number r ≡ 0 → Seen given seen i → Seen given seen' (i + 1)
   seen_next z sn = record {
     all = λ j l. ⊎_elim (λ (a : j < i). k.kept _ (sn.all j a))
@@ -168,23 +167,23 @@ passed_none given u = record {
 }
 
 module _ {k : Names} {count : ℕ} {given seen has : List ℕ} {before : Bits} {i : ℕ} (p : Passed k count given before (bits seen has) i) where
-  pub passed_all : length given ≤ i → AllLooked k count given seen has fault.Nothing
+  pub passed_all : length given ≤ i → AllLooked k count given seen has (Ok tt)
   passed_all h =
       all_none count given i (fault_end k.file count k.table (ltb 0 (length k.query)) given i h ∙ p.rest) p.marks p.seen_so_far h
 
   module _ (h : i < length given) where
-    pub passed_index : count ≤ get_or given i 0 → AllLooked k count given seen has (fault.Refused StringIndex)
+    pub passed_index : count ≤ get_or given i 0 → AllLooked k count given seen has (Err StringIndex)
     passed_index l =
         all_refused count given StringIndex (fault_index k.file count k.table (ltb 0 (length k.query)) given i h l ∙ p.rest) p.marks
 
-    module _ (l : get_or given i 0 < count) {seen' has' : List ℕ} {r : Fault} (look : Looked k (get_or given i 0) seen seen' has' r) where
-      pub passed_fault : (why : Refusal) → r ≡ fault.Refused why → AllLooked k count given seen' has' (fault.Refused why)
+    module _ (l : get_or given i 0 < count) {seen' has' : List ℕ} {r : (Result (Unit {0}) Refusal)} (look : Looked k (get_or given i 0) seen seen' has' r) where
+      pub passed_fault : (why : Refusal) → r ≡ Err why → AllLooked k count given seen' has' (Err why)
       passed_fault why e =
           all_refused count given why
           (fault_text k.file count k.table (ltb 0 (length k.query)) given i h l why (sym (ap fault_number e) ∙ look.fault) ∙ p.rest)
           look.marks
 
-      pub passed_next : r ≡ fault.Nothing → length seen' ≡ length seen → length has' ≡ length has
+      pub passed_next : r ≡ (Ok tt) → length seen' ≡ length seen → length has' ≡ length has
           → Passed k count given before (bits seen' has') (i + 1)
       passed_next e a b = record {
         rest = sym (fault_next k.file count k.table (ltb 0 (length k.query)) given i h l (sym (ap fault_number e) ∙ look.fault)) ∙ p.rest;

@@ -1,8 +1,11 @@
 -- Without a fault the strings that have the name are read off: the set has them and no others.
 -- Assumes nothing.
+use Rattle.refusal.specs.declared.Refusal.{Refusal}
+use Rattle.std.specs.Prelude.{Option, Result}
+use Rattle.std.specs.Option.{ok_or}
 use Prim.Native.Nat.{ℕ, ◌*◌, ◌≤◌}
 use native.Mathlib.Omega.{arith}
-use mathlib.Core.Path.{◌≡◌, refl, sym, subst, ◌∙◌}
+use mathlib.Core.Path.{◌≡◌, sym, subst, ◌∙◌}
 use mathlib.Core.Bool.{true, false}
 use mathlib.Core.Logic.{⊎_elim}
 use mathlib.Core.List.{List}
@@ -10,17 +13,13 @@ use lib.ListN.{length, length-replicate}
 use Rattle.words.specs.Padded.{zeros}
 use Rattle.words.proofs.Shared.{case}
 use Rattle.refusal.specs.declared.Refusal.TheVariants.{LentTooShort}
-use Rattle.refusal.specs.declared.Answer.TheVariants as answer
 use Rattle.word_set.specs.Sets.{Joins}
-use Rattle.word_set.specs.Steps.{Whole, Matched, all, over}
-use Rattle.word_set.specs.declared.Insertion.{Insertion}
-use Rattle.word_set.specs.declared.Insertion.TheVariants.{Held, Full}
+use Rattle.word_set.specs.Steps.{Matched, all, over}
 use Rattle.word_set.proofs.Found.{matched_same}
 use Rattle.word_set.proofs.Joins.{holding_none, joined_none}
 use Rattle.index_set.specs.Bits.{is_held, indices}
 use Rattle.index_set.proofs.Bits.{held_zeros}
 use Rattle.index_set.proofs.Gathering.{gathered}
-use Rattle.word_set.specs.declared.Fault.{Fault}
 use Rattle.word_set.specs.Found.{fault_number}
 use Rattle.name_filter.specs.Steps.{Names, AllLooked, Begun, Counted, SiftedOf, done, short}
 use Rattle.name_filter.specs.Names.{Named}
@@ -39,7 +38,7 @@ begun n l m c =
       clear = c.clear;
     }
 
-module _ {k : Names} {count : ℕ} {given seen has : List ℕ} {r : Fault} (a : AllLooked k count given seen has r) (z : fault_number r ≡ 0) where
+module _ {k : Names} {count : ℕ} {given seen has : List ℕ} {r : (Result (Unit {0}) Refusal)} (a : AllLooked k count given seen has r) (z : fault_number r ≡ 0) where
   held_named : (x : ℕ) → is_held has x ≡ true → Named k.file k.table k.query given x
   held_named x h =
       let l = a.marks.among x h in
@@ -51,22 +50,14 @@ module _ {k : Names} {count : ℕ} {given seen has : List ℕ} {r : Fault} (a : 
       let l : is_held seen x ≡ true = subst (λ (y : ℕ). is_held seen y ≡ true) i.is ((a.seen_all z).all i.at i.inside) in
       ⊎_elim (λ (t : is_held has x ≡ true). t) (λ (t : is_held has x ≡ false). absurd ((a.marks.says x l).no t n.has)) (case (is_held has x))
 
-  module _ {out after : List ℕ} {g : Insertion} (small : length has ≤ 67108864) (clear : out ≡ zeros (length out)) (j : Joins (indices has) 0 out after g) where
+  module _ {out after : List ℕ} {g : (Option ℕ)} (small : length has ≤ 67108864) (clear : out ≡ zeros (length out)) (j : Joins (indices has) 0 out after g) where
     named : Matched (Named k.file k.table k.query given) out after g
     named = matched_same held_named named_held (joined_none (gathered has small (holding_none out clear) j))
 
-    pub sift_done : (n : ℕ) → g ≡ Held n → SiftedOf k count given out after (answer.Done n)
-    sift_done n e = go named
+    -- as many as there is room for, or none
+    pub sift_said : {r' : Result ℕ Refusal} → r' ≡ ok_or g LentTooShort → SiftedOf k count given out after r'
+    sift_said {r'} e = go named
       where
-        go : Matched (Named k.file k.table k.query given) out after g → SiftedOf k count given out after (answer.Done n)
-        go (all j f w) =
-            let i : j ≡ n = cc in done n refl (sym z ∙ a.fault)
-            (subst (λ (m : ℕ). Whole (Named k.file k.table k.query given) m out after) i w)
-        go (over f more) = absurd (let y : ◌≡◌ {A = ℕ} 0 1 = cc in omega arith)
-
-    pub sift_short : g ≡ Full → SiftedOf k count given out after (answer.Refused LentTooShort)
-    sift_short e = go named
-      where
-        go : Matched (Named k.file k.table k.query given) out after g → SiftedOf k count given out after (answer.Refused LentTooShort)
-        go (all k f w) = absurd (let y : ◌≡◌ {A = ℕ} 0 1 = cc in omega arith)
-        go (over f more) = short refl (sym z ∙ a.fault) more
+        go : Matched (Named k.file k.table k.query given) out after g → SiftedOf k count given out after r'
+        go (all n f w) = done n (rw f at e) (sym z ∙ a.fault) w
+        go (over f more) = short (rw f at e) (sym z ∙ a.fault) more

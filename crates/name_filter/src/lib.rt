@@ -6,18 +6,26 @@
 mod matches_name; // matches_name.rt: one text and a query
 mod refusals; // refusals.rt: what is refused, of a call and of one text
 
-ghost use Rattle.std.specs.Prelude.{◌≡◌, ◌+◌};
+ghost use Rattle.std.specs.Prelude.{◌≡◌, ◌+◌, ◌*◌, ◌≤◌};
 ghost use Rattle.dalvik.specs.Numbers.{le32};
 ghost use Rattle.dalvik.specs.Ids.{string_data_off as data_off};
 ghost use Rattle.word_set.specs.Found.{Found};
 ghost use Rattle.name_filter.specs.Faults.{filter_fault};
 ghost use Rattle.name_filter.specs.Names.{Named};
-ghost use Rattle.name_filter.specs.Steps.{names, Noted, Room, Looking, Looked, Unmarked, AllLooked, Begun};
-ghost use Rattle.name_filter.specs.Steps.{few, some, most, Counted, SiftedOf, Refuses};
+ghost use Rattle.name_filter.specs.Steps.{names_of, Noted, Room, Looking, Looked, Unmarked, AllLooked, Begun};
+ghost use Rattle.name_filter.specs.Steps.{most, Counted, SiftedOf, Refuses};
 
-use refusal::{Answer, Refusal};
-use refusals::Verdict;
-use word_set::{Fault, Insertion};
+use refusal::Refusal;
+
+// What is asked: which of the given strings have the query in their text. The file has `count` strings, whose ids stand at `table`.
+#[derive(Clone, Copy)]
+struct Asked<'a> {
+    file: &'a [u8],
+    count: u32,
+    table: u32,
+    query: &'a [u8],
+    given: &'a [u32],
+}
 
 // The data offset of a string.
 fn data_offset(file: &[u8], table: u32, index: u32) -> usize
@@ -27,6 +35,7 @@ fn data_offset(file: &[u8], table: u32, index: u32) -> usize
 }
 
 // A string is seen, and has the name or not.
+// Kept: `named` is what is noted, and chooses no step but whether a bit is set.
 fn note(seen: &mut [u64], has: &mut [u64], index: u32, named: bool)
     requires { Room (index + 1) seen.old has.old }
     ensures { Noted index named seen.old has.old seen.new has.new }
@@ -38,194 +47,109 @@ fn note(seen: &mut [u64], has: &mut [u64], index: u32, named: bool)
 }
 
 // One given index: its string is looked at if it is not seen yet.
-fn mark_one(
-    file: &[u8],
-    table: u32,
-    index: u32,
-    query: &[u8],
-    seen: &mut [u64],
-    has: &mut [u64],
-) -> Fault
-    requires { Looking (names file.now table query.now) index seen.old has.old }
-    ensures { let of = names file.now table query.now in
-        Looked of index seen.old seen.new has.new result }
+fn mark_one(asked: &Asked, index: u32, seen: &mut [u64], has: &mut [u64]) -> Result<(), Refusal>
+    requires { Looking (names_of asked.now) index seen.old has.old }
+    ensures { Looked (names_of asked.now) index seen.old seen.new has.new result }
 {
     if index_set::holds(seen, index) {
-        return Fault::Nothing;
+        return Ok(());
     }
-    match refusals::judge(file, data_offset(file, table, index), query) {
-        Verdict::Known(named) => {
-            note(seen, has, index, named);
-            Fault::Nothing
-        }
-        Verdict::Refused(why) => Fault::Refused(why),
-    }
+    let offset = data_offset(asked.file, asked.table, index);
+    let named = refusals::judge(asked.file, offset, asked.query)?;
+    note(seen, has, index, named);
+    Ok(())
 }
 
 // All given indices, up to the first fault.
-fn mark(
-    file: &[u8],
-    count: u32,
-    table: u32,
-    query: &[u8],
-    given: &[u32],
-    seen: &mut [u64],
-    has: &mut [u64],
-) -> Fault
-    requires { Unmarked count seen.old has.old }
-    ensures { let of = names file.now table query.now in
-        AllLooked of count given.now seen.new has.new result }
+fn mark(asked: &Asked, seen: &mut [u64], has: &mut [u64]) -> Result<(), Refusal>
+    requires { Unmarked asked.now.count seen.old has.old }
+    ensures { AllLooked (names_of asked.now) asked.now.count asked.now.given.now seen.new has.new result }
 {
-    let mut i = 0;
-    while i < given.len() {
-        let index = given[i];
-        if count <= index {
-            return Fault::Refused(Refusal::StringIndex);
+    for index in asked.given {
+        if asked.count <= *index {
+            return Err(Refusal::StringIndex);
         }
-        let fault = mark_one(file, table, index, query, seen, has);
-        if let Fault::Refused(why) = fault {
-            return Fault::Refused(why);
-        }
-        i += 1;
+        mark_one(asked, *index, seen, has)?;
     }
-    Fault::Nothing
+    Ok(())
 }
 
 // The named strings are read off the set in order.
-fn sift(
-    file: &[u8],
-    count: u32,
-    table: u32,
-    query: &[u8],
-    given: &[u32],
-    seen: &mut [u64],
-    has: &mut [u64],
-    out: &mut [u32],
-) -> Answer
-    requires { Begun count seen.old has.old out.old }
-    ensures { let of = names file.now table query.now in
-        SiftedOf of count given.now out.old out.new result }
+fn sift(asked: &Asked, seen: &mut [u64], has: &mut [u64], out: &mut [u32]) -> Result<usize, Refusal>
+    requires { Begun asked.now.count seen.old has.old out.old }
+    ensures { SiftedOf (names_of asked.now) asked.now.count asked.now.given.now out.old out.new result }
 {
-    let fault = mark(file, count, table, query, given, seen, has);
-    if let Fault::Refused(why) = fault {
-        return Answer::Refused(why);
-    }
-    let Insertion::Held(n) = index_set::gather(has, out, 0) else {
-        return Answer::Refused(Refusal::LentTooShort);
-    };
-    Answer::Done(n)
+    mark(asked, seen, has)?;
+    index_set::gather(has, out, 0).ok_or(Refusal::LentTooShort)
 }
 
-// How many strings a set of 64 words has a bit for.
-const FEW: u32 = 4096;
-
-// .. and one of 2,048 words.
-const SOME: u32 = 131072;
-
-// Sets for few strings.
-fn sift_few(
-    file: &[u8],
-    count: u32,
-    table: u32,
-    query: &[u8],
-    given: &[u32],
-    out: &mut [u32],
-) -> Answer
-    requires { Counted few count out.old }
-    ensures { let of = names file.now table query.now in
-        SiftedOf of count given.now out.old out.new result }
+// With sets of N words each, for 64 N strings at most.
+fn sift_with<const N: usize>(asked: &Asked, out: &mut [u32]) -> Result<usize, Refusal>
+    requires counted { Counted (64 * N) asked.now.count out.old }
+    requires few { N ≤ 67108864 }
+    ensures { SiftedOf (names_of asked.now) asked.now.count asked.now.given.now out.old out.new result }
 {
-    let mut seen = [0u64; 64];
-    let mut has = [0u64; 64];
-    sift(file, count, table, query, given, &mut seen, &mut has, out)
+    let mut seen = [0u64; N];
+    let mut has = [0u64; N];
+    sift(asked, &mut seen, &mut has, out)
 }
 
-// Sets for more.
-fn sift_some(
-    file: &[u8],
-    count: u32,
-    table: u32,
-    query: &[u8],
-    given: &[u32],
-    out: &mut [u32],
-) -> Answer
-    requires { Counted some count out.old }
-    ensures { let of = names file.now table query.now in
-        SiftedOf of count given.now out.old out.new result }
-{
-    let mut seen = [0u64; 2048];
-    let mut has = [0u64; 2048];
-    sift(file, count, table, query, given, &mut seen, &mut has, out)
-}
+// How many words the sets have for few strings.
+const FEW: usize = 64;
 
-// Sets for as many as a file within the limit can have.
-fn sift_many(
-    file: &[u8],
-    count: u32,
-    table: u32,
-    query: &[u8],
-    given: &[u32],
-    out: &mut [u32],
-) -> Answer
-    requires { Counted most count out.old }
-    ensures { let of = names file.now table query.now in
-        SiftedOf of count given.now out.old out.new result }
-{
-    let mut seen = [0u64; 65536];
-    let mut has = [0u64; 65536];
-    sift(file, count, table, query, given, &mut seen, &mut has, out)
-}
+// .. for more.
+const SOME: usize = 2048;
+
+// .. and for as many as a file within the limit can have.
+const MOST: usize = 65536;
 
 // Sets as large as the count asks for.
-fn sift_all(
-    file: &[u8],
-    count: u32,
-    table: u32,
-    query: &[u8],
-    given: &[u32],
-    out: &mut [u32],
-) -> Answer
-    requires { Counted most count out.old }
-    ensures { let of = names file.now table query.now in
-        SiftedOf of count given.now out.old out.new result }
+fn sift_all(asked: &Asked, out: &mut [u32]) -> Result<usize, Refusal>
+    requires { Counted most asked.now.count out.old }
+    ensures { SiftedOf (names_of asked.now) asked.now.count asked.now.given.now out.old out.new result }
 {
-    if count <= FEW {
-        return sift_few(file, count, table, query, given, out);
+    let count = asked.count as usize;
+    if count <= 64 * FEW {
+        sift_with::<FEW>(asked, out)
+    } else if count <= 64 * SOME {
+        sift_with::<SOME>(asked, out)
+    } else {
+        sift_with::<MOST>(asked, out)
     }
-    if count <= SOME {
-        return sift_some(file, count, table, query, given, out);
-    }
-    sift_many(file, count, table, query, given, out)
 }
 
 // A refusal leaves zeros.
-fn refuse(lent: &mut [u32], why: Refusal) -> Answer
+fn refuse(lent: &mut [u32], why: Refusal) -> Result<usize, Refusal>
     ensures { Refuses why lent.old lent.new result }
 {
     words::clear(lent);
-    Answer::Refused(why)
+    Err(why)
 }
 
 // The given indices whose string contains the query, rising and without repeats.
-pub fn locate_name_indices(file: &[u8], given: &[u32], query: &[u8], out: &mut [u32]) -> Answer
+pub fn locate_name_indices(
+    file: &[u8],
+    given: &[u32],
+    query: &[u8],
+    out: &mut [u32],
+) -> Result<usize, Refusal>
     ensures gives { let named = Named file.now (le32 file.now 0x3c) query.now given.now in
         let fault = filter_fault file.now query.now given.now in
         Found named fault result out.old out.new }
 {
-    let fault = refusals::head_fault(file, query);
-    if let Fault::Refused(why) = fault {
+    if let Err(why) = refusals::head_fault(file, query) {
         return refuse(out, why);
     }
     words::clear(out);
-    match sift_all(
+    let asked = Asked {
         file,
-        structs::u32_at(file, 0x38),
-        structs::u32_at(file, 0x3c),
+        count: structs::u32_at(file, 0x38),
+        table: structs::u32_at(file, 0x3c),
         query,
         given,
-        out,
-    ) {
-        Answer::Done(n) => Answer::Done(n),
-        Answer::Refused(why) => refuse(out, why),
+    };
+    match sift_all(&asked, out) {
+        Ok(n) => Ok(n),
+        Err(why) => refuse(out, why),
     }
 }

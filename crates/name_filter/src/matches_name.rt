@@ -3,46 +3,14 @@
 ghost use Rattle.std.specs.Prelude.{◌≡◌, map, ◌+◌, ◌≤◌, length};
 ghost use Rattle.byte_search.specs.Occurs.{Stands};
 ghost use Rattle.word_set.specs.Steps.{Decides};
-ghost use Rattle.name_filter.specs.Steps.{Capital};
 ghost use Rattle.name_filter.specs.HasName.{lower_case, is_ascii, HasName};
-
-// A letter A to Z becomes its small letter.
-fn lower(b: u8) -> u8
-    ensures { result ≡ lower_case b }
-{
-    if 0x41 <= b {
-        if b <= 0x5a {
-            return b + 32;
-        }
-    }
-    b
-}
 
 // Whether the query stands at a place of the text, case ignored.
 fn stands_at(text: &[u8], at: usize, query: &[u8]) -> bool
     requires { at + length query.now ≤ length text.now }
     ensures { Decides (Stands (map lower_case text.now) (map lower_case query.now) at) result }
 {
-    let mut k = 0;
-    while k < query.len() {
-        if lower(text[at + k]) != lower(query[k]) {
-            return false;
-        }
-        k += 1;
-    }
-    true
-}
-
-// A letter a to z becomes its capital letter.
-fn upper(b: u8) -> u8
-    ensures { Capital b result }
-{
-    if 0x61 <= b {
-        if b <= 0x7a {
-            return b - 32;
-        }
-    }
-    b
+    text[at..at + query.len()].eq_ignore_ascii_case(query)
 }
 
 // Whether the text contains the query, case ignored. It is looked for where its first letter stands, small or capital.
@@ -57,8 +25,8 @@ pub(crate) fn matches_name(text: &[u8], query: &[u8]) -> bool
         return false;
     }
     let end = text.len() - n + 1;
-    let a = lower(query[0]);
-    let b = upper(a);
+    let a = query[0].to_ascii_lowercase();
+    let b = a.to_ascii_uppercase();
     let mut at = byte_search::memchr2(a, b, text, 0, end);
     while at < end {
         if stands_at(text, at, query) {
@@ -74,13 +42,8 @@ pub(crate) fn is_ascii(bytes: &[u8]) -> bool
     ensures { result ≡ is_ascii bytes.now }
 {
     let mut all: u8 = 0;
-    let mut i = 0;
-    while i < bytes.len() {
-        all = all | bytes[i];
-        i += 1;
+    for byte in bytes {
+        all = all | *byte;
     }
-    if all < 128 {
-        return true;
-    }
-    false
+    all < 128
 }

@@ -1,9 +1,7 @@
 -- The length of an instruction, read off its opcode byte by ranges: SPEC, Instruction lengths. That these are the lengths of
 -- the published formats is proved in proofs/Published.antt.
 -- Assumes nothing.
-use Rattle.std.specs.Prelude.{ℕ, List, [], ◌∷◌, Bool, false, cond, ◌&&◌, ◌||◌, leb, eqb}
-use Rattle.opcodes.specs.declared.Length.{Length}
-use Rattle.opcodes.specs.declared.Length.TheVariants.{Units, Nothing}
+use Rattle.std.specs.Prelude.{ℕ, List, [], ◌∷◌, Bool, false, cond, ◌&&◌, ◌||◌, leb, eqb, Option, Some, None}
 
 -- the opcodes from one number to another, both included
 pub record Range : Type 0 where
@@ -51,8 +49,8 @@ units_of op =
     (cond (within op of_five) 5 0))))
 
 -- units, or nothing for 0
-abbrev pub as_length : ℕ → Length
-as_length n = cond (eqb n 0) Nothing (Units n)
+abbrev pub as_length : ℕ → Option ℕ
+as_length n = cond (eqb n 0) None (Some n)
 
-unfoldable pub length_read : ℕ → Length
+unfoldable pub length_read : ℕ → Option ℕ
 length_read op = as_length (units_of op)

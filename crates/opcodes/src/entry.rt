@@ -43,9 +43,7 @@ fn sixteen(lengths: &[u8], from: usize) -> u64
     ensures { result ≡ packed from 16 }
 {
     let mut word: u64 = 0;
-    let mut i: usize = 16;
-    while 0 < i {
-        i -= 1;
+    for i in (0..16).rev() {
         word = 16 * word + (lengths[from + i] as u64);
     }
     word

@@ -6,24 +6,13 @@ mod entry; // entry.rt: how the table is read
 ghost use Rattle.std.specs.Prelude.{◌≡◌};
 ghost use Rattle.opcodes.specs.Length.{length_read};
 
-// How many units of two bytes an instruction has, where its opcode has a length.
-#[derive(Clone, Copy)]
-pub enum Length {
-    Units(usize),
-    Nothing,
-}
-
 // `oplen` of the source.
-pub fn oplen(op: u8) -> Length
+pub fn oplen(op: u8) -> Option<usize>
     ensures { result ≡ length_read op }
 {
     let lengths = LENGTHS;
     let n = entry::entry(&lengths, op);
-    if n == 0 {
-        Length::Nothing
-    } else {
-        Length::Units(n)
-    }
+    if n == 0 { None } else { Some(n) }
 }
 
 // The units of each opcode, 0 for none, with its name in "Dalvik bytecode", "Summary of bytecode set".

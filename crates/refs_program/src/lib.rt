@@ -1,38 +1,28 @@
 // The program `refs`: SPEC, The program refs. It reads `input.dex` and the request, finds, lists every entry's slot, and only then prints:
 // a refusal of any step prints its line and nothing else. Where `input.dex` cannot be opened, that is said on standard error.
+// Kept, point 1: the request's kind goes on as a number to `find` and `head`, which refuse 2 one that names none.
 #![tactic(auto)]
 
+use entry_lines::Entries;
 use findrefs::Found;
-use refusal::{Answer, Refusal};
+use refusal::Refusal;
 use request::Request;
 use std::fs::File;
 use std::io;
 use std::rt::Files;
-use tinydex::DexHeader;
 
 // ---- printing
 
-// The first n bytes, or all where there are fewer.
-fn first_bytes(text: &[u8], n: usize) -> &[u8] {
-    if text.len() < n {
-        return text;
-    }
-    &text[..n]
-}
-
-// The first n words, or all where there are fewer.
-fn first(list: &[u32], n: usize) -> &[u32] {
-    if list.len() < n {
-        return list;
-    }
-    &list[..n]
+// The first n items, or all where there are fewer.
+fn first<T>(list: &[T], n: usize) -> &[T] {
+    list.get(..n).unwrap_or(list)
 }
 
 // A text that was written. One that was refused is empty.
-fn print(rt: &impl Print, answer: Answer, text: &[u8]) -> io::Result<()> {
+fn print(rt: &impl Print, answer: Result<usize, Refusal>, text: &[u8]) -> io::Result<()> {
     match answer {
-        Answer::Done(n) => rt.write_all(first_bytes(text, n)),
-        Answer::Refused(_) => Ok(()),
+        Ok(n) => rt.write_all(first(text, n)),
+        Err(_) => Ok(()),
     }
 }
 
@@ -48,33 +38,15 @@ fn print_head(rt: &impl Print, kind: u32, hits: usize, text: &mut [u8]) -> io::R
     print(rt, answer, text)
 }
 
-fn print_line(
-    rt: &impl Print,
-    offs: &[u32],
-    marks: &[u32],
-    answers: &[u32],
-    shares: &[u32],
-    i: usize,
-    mids: &mut [u32],
-    text: &mut [u8],
-) -> io::Result<()> {
-    let answer = entry_lines::line_at(offs, marks, answers, shares, i, mids, text);
-    print(rt, answer, text)
-}
-
 fn print_lines(
     rt: &impl Print,
-    offs: &[u32],
-    marks: &[u32],
-    answers: &[u32],
-    shares: &[u32],
+    lists: Entries,
     mids: &mut [u32],
     text: &mut [u8],
 ) -> io::Result<()> {
-    let mut i = 0;
-    while i < offs.len() {
-        print_line(rt, offs, marks, answers, shares, i, mids, text)?;
-        i += 1;
+    for i in 0..lists.offs.len() {
+        let answer = entry_lines::line_at(lists, i, mids, text);
+        print(rt, answer, text)?;
     }
     Ok(())
 }
@@ -82,69 +54,52 @@ fn print_lines(
 fn print_entries(
     rt: &impl Print,
     kind: u32,
-    offs: &[u32],
-    marks: &[u32],
-    answers: &[u32],
-    shares: &[u32],
+    lists: Entries,
     mids: &mut [u32],
     text: &mut [u8],
 ) -> io::Result<()> {
-    match entry_lines::try_lines(offs, marks, answers, shares, mids, text) {
-        Answer::Refused(why) => print_refusal(rt, why),
-        Answer::Done(hits) => {
+    match entry_lines::try_lines(lists, mids, text) {
+        Err(why) => print_refusal(rt, why),
+        Ok(hits) => {
             print_head(rt, kind, hits, text)?;
-            print_lines(rt, offs, marks, answers, shares, mids, text)
+            print_lines(rt, lists, mids, text)
         }
     }
 }
 
 // A line has at most 45,091 bytes: 4,096 methods of ten digits with commas between them, and what stands around them. So it is refused
 // only as its listing is (`line_fits` of entry_lines).
-fn print_found(
-    rt: &impl Print,
-    kind: u32,
-    offs: &[u32],
-    marks: &[u32],
-    answers: &[u32],
-    shares: &[u32],
-) -> io::Result<()> {
+fn print_found(rt: &impl Print, kind: u32, lists: Entries) -> io::Result<()> {
     let mut mids = [0u32; 4096];
     let mut text = [0u8; 65536];
-    print_entries(rt, kind, offs, marks, answers, shares, &mut mids, &mut text)
+    print_entries(rt, kind, lists, &mut mids, &mut text)
 }
 
 // ---- finding
 
+// What was found: the lists hold as many entries as the scan found, and zeros after them.
 fn print_answer(
     rt: &impl Print,
-    found: Found,
+    found: Result<Found, Refusal>,
     kind: u32,
-    offs: &[u32],
-    marks: &[u32],
-    answers: &[u32],
-    shares: &[u32],
+    lists: Entries,
 ) -> io::Result<()> {
     match found {
-        Found::Refused(why) => print_refusal(rt, why),
-        Found::Done { region: _, hits } => print_found(
-            rt,
-            kind,
-            first(offs, hits),
-            first(marks, hits),
-            first(answers, hits),
-            shares,
-        ),
+        Err(why) => print_refusal(rt, why),
+        Ok(found) => {
+            let entries = Entries {
+                offs: first(lists.offs, found.hits),
+                marks: first(lists.marks, found.hits),
+                answers: first(lists.answers, found.hits),
+                shares: lists.shares,
+            };
+            print_found(rt, kind, entries)
+        }
     }
 }
 
 // Eight slices are lent, of 4,096 words each: start words for 2,048 methods.
-fn search(
-    rt: &impl Print,
-    file: &[u8],
-    header: DexHeader,
-    kind: u32,
-    wanted: &[u32],
-) -> io::Result<()> {
+fn search(rt: &impl Print, file: &[u8], request: Request, wanted: &[u32]) -> io::Result<()> {
     let mut starts = [0u32; 4096];
     let mut triples = [0u32; 4096];
     let mut slots = [0u32; 4096];
@@ -155,8 +110,8 @@ fn search(
     let mut answers = [0u32; 4096];
     let found = findrefs::find(
         file,
-        header,
-        kind,
+        request.header,
+        request.kind,
         wanted,
         &mut starts,
         &mut triples,
@@ -167,17 +122,19 @@ fn search(
         &mut further,
         &mut answers,
     );
-    print_answer(rt, found, kind, &offs, &marks, &answers, &shares)
+    let lists = Entries {
+        offs: &offs,
+        marks: &marks,
+        answers: &answers,
+        shares: &shares,
+    };
+    print_answer(rt, found, request.kind, lists)
 }
 
 fn answer(rt: &impl Print, file: &[u8], text: &[u8], wanted: &mut [u32]) -> io::Result<()> {
     match request::read_request(text, wanted) {
-        Request::Refused(why) => print_refusal(rt, why),
-        Request::Asked {
-            header,
-            kind,
-            count,
-        } => search(rt, file, header, kind, first(wanted, count)),
+        Err(why) => print_refusal(rt, why),
+        Ok(request) => search(rt, file, request, first(wanted, request.count)),
     }
 }
 
@@ -192,7 +149,7 @@ fn read_request(rt: &(impl Input + Print), file: &[u8]) -> io::Result<()> {
         return print_refusal(rt, Refusal::BadRequest);
     }
     let mut wanted = [0u32; 4096];
-    answer(rt, file, first_bytes(text, n), &mut wanted)
+    answer(rt, file, first(text, n), &mut wanted)
 }
 
 // How many bytes of a file the program reads. A longer one is refused.
@@ -207,7 +164,7 @@ fn read_file<R: Files + Input + Print>(rt: &R, mut input: R::File) -> io::Result
     if MOST_BYTES < n {
         return print_refusal(rt, Refusal::FileTooLarge);
     }
-    read_request(rt, first_bytes(file, n))
+    read_request(rt, first(file, n))
 }
 
 // The whole program.

@@ -1,12 +1,10 @@
 -- SPEC, Conventions: the numbers of the refusals, and the limit of 16,777,216 bytes.
 -- Assumes nothing.
-use Rattle.std.specs.Prelude.{ℕ, Bool, ltb}
+use Rattle.std.specs.Prelude.{ℕ, Bool, ltb, Result, Ok, Err}
 use Rattle.refusal.specs.declared.Refusal.{Refusal}
 use Rattle.refusal.specs.declared.Refusal.TheVariants.{FileTooLarge, UnknownKind, TableOutside, LentTooShort, StringOutside}
 use Rattle.refusal.specs.declared.Refusal.TheVariants.{NumberOutside, MethodIndex, CodeOutside, BadQuery, LengthOverflow}
 use Rattle.refusal.specs.declared.Refusal.TheVariants.{NotAscii, RegionOutside, StringIndex, BadRequest, LentTable, NumberTooLong}
-use Rattle.refusal.specs.declared.Answer.{Answer}
-use Rattle.refusal.specs.declared.Answer.TheVariants.{Done, Refused}
 
 abbrev pub refusal_number : Refusal → ℕ
 refusal_number FileTooLarge = 1
@@ -27,14 +25,14 @@ refusal_number LentTable = 15
 refusal_number NumberTooLong = 16
 
 -- the number of an answer: 0 for success
-abbrev pub answer_number : Answer → ℕ
-answer_number (Done n) = 0
-answer_number (Refused r) = refusal_number r
+abbrev pub answer_number : Result ℕ Refusal → ℕ
+answer_number (Ok n) = 0
+answer_number (Err r) = refusal_number r
 
 -- the count of an answer: 0 for a refusal
-abbrev pub answer_count : Answer → ℕ
-answer_count (Done n) = n
-answer_count (Refused r) = 0
+abbrev pub answer_count : Result ℕ Refusal → ℕ
+answer_count (Ok n) = n
+answer_count (Err r) = 0
 
 abbrev pub largest_file : ℕ
 largest_file = 16777216

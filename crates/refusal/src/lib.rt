@@ -4,7 +4,7 @@
 ghost use Rattle.std.specs.Prelude.{◌≡◌};
 ghost use Rattle.refusal.specs.Refusals.{refusal_number, is_too_large};
 
-// Why an operation refused. SPEC, Conventions, gives each a number; `number` has them.
+// Why an operation refused. SPEC, Conventions, gives each a number.
 #[derive(Clone, Copy)]
 pub enum Refusal {
     // The file has more than 16,777,216 bytes.
@@ -41,34 +41,29 @@ pub enum Refusal {
     NumberTooLong,
 }
 
-// What an operation over lent words answers: how many words its result has, or why it refused.
-#[derive(Clone, Copy)]
-pub enum Answer {
-    Done(usize),
-    Refused(Refusal),
-}
-
 // The refusal's number.
-pub fn number(r: Refusal) -> u32
-    ensures { result ≡ refusal_number r }
-{
-    match r {
-        Refusal::FileTooLarge => 1,
-        Refusal::UnknownKind => 2,
-        Refusal::TableOutside => 3,
-        Refusal::LentTooShort => 4,
-        Refusal::StringOutside => 5,
-        Refusal::NumberOutside => 6,
-        Refusal::MethodIndex => 7,
-        Refusal::CodeOutside => 8,
-        Refusal::BadQuery => 9,
-        Refusal::LengthOverflow => 10,
-        Refusal::NotAscii => 11,
-        Refusal::RegionOutside => 12,
-        Refusal::StringIndex => 13,
-        Refusal::BadRequest => 14,
-        Refusal::LentTable => 15,
-        Refusal::NumberTooLong => 16,
+impl From<Refusal> for u32 {
+    ghost from_gives = { λ r n. n ≡ refusal_number r };
+
+    fn from(r: Refusal) -> u32 {
+        match r {
+            Refusal::FileTooLarge => 1,
+            Refusal::UnknownKind => 2,
+            Refusal::TableOutside => 3,
+            Refusal::LentTooShort => 4,
+            Refusal::StringOutside => 5,
+            Refusal::NumberOutside => 6,
+            Refusal::MethodIndex => 7,
+            Refusal::CodeOutside => 8,
+            Refusal::BadQuery => 9,
+            Refusal::LengthOverflow => 10,
+            Refusal::NotAscii => 11,
+            Refusal::RegionOutside => 12,
+            Refusal::StringIndex => 13,
+            Refusal::BadRequest => 14,
+            Refusal::LentTable => 15,
+            Refusal::NumberTooLong => 16,
+        }
     }
 }
 

@@ -1,10 +1,10 @@
 -- The outcome of a search: the outcomes of scan and locate one after another, up to the first that refuses; and what a call leaves.
 -- Assumes nothing.
-use Rattle.std.specs.Prelude.{ℕ, ◌≡◌, List, [], cond, length, eqb}
+use Rattle.refusal.specs.declared.Refusal.{Refusal}
+use Rattle.std.specs.Prelude.{ℕ, ◌≡◌, List, [], cond, length, eqb, Result}
 use Rattle.words.specs.Padded.{zeros, padded}
 use Rattle.refusal.specs.Refusals.{answer_number, answer_count}
 use Rattle.refusal.specs.Outcomes.{Outcome}
-use Rattle.refusal.specs.declared.Answer.{Answer}
 use Rattle.code_item_scan.specs.Scan.{Hit, offs, marks, Asked, HitRoom, scan_out}
 use Rattle.code_item_scan.specs.Answers.{HitWords}
 use Rattle.insn_locator.specs.Locate.{Tables, locate_out}
@@ -39,7 +39,7 @@ pub record SearchWords : Type 0 where
 abbrev pub search_words : HitWords → LocateWords → SearchWords
 search_words hits located = record { hits = hits; located = located }
 
-pub record GivesSearch (o : Search) (r : Answer) (before after : SearchWords) : Type 0 where
+pub record GivesSearch (o : Search) (r : Result ℕ Refusal) (before after : SearchWords) : Type 0 where
   pub number : answer_number r ≡ o.number
   pub count : answer_count r ≡ length o.hits
   pub offs : after.hits.offs ≡ padded (length before.hits.offs) (offs o.hits)

@@ -1,56 +1,17 @@
 // The finder's second half: the scan of a build's region and locate of its list, over lent buffers.
+// Kept, point 1: a kind is asked for by its number, and one that names none is refused 2 in its place (`scan_out`).
+// Kept, point 5: the slices of a call are parameters of their own, as C lends them and README lists them.
 #![tactic(auto)]
 
-ghost use Rattle.std.specs.Prelude.{◌≤◌, ◌/◌, length, take};
+ghost use Rattle.std.specs.Prelude.{◌/◌, length};
 ghost use Rattle.start_words.specs.Starts.{first_starts};
 ghost use Rattle.code_item_scan.specs.Scan.{asked};
 ghost use Rattle.code_item_scan.specs.Answers.{hit_words, hit_room_of};
-ghost use Rattle.insn_locator.specs.Locate.{locate_out};
 ghost use Rattle.insn_locator.specs.Answers.{tables, locate_words};
 ghost use Rattle.region_search.specs.Search.{search_out, search_words, GivesSearch};
-ghost use Rattle.region_search.specs.Steps.{LocatesHits};
 
 use code_table::Region;
-use refusal::Answer;
-
-// Locate of the first n offsets; a refusal clears them and the indices beside them.
-fn locate_hits(
-    file: &[u8],
-    base: u32,
-    slots: &[u32],
-    starts: &[u32],
-    shares: &[u32],
-    n: usize,
-    offs: &mut [u32],
-    marks: &mut [u32],
-    further: &mut [u32],
-    answers: &mut [u32],
-) -> Answer
-    requires { n ≤ length offs.old }
-    ensures { let before = search_words (hit_words offs.old marks.old) (locate_words further.old answers.old) in
-        let after = search_words (hit_words offs.new marks.new) (locate_words further.new answers.new) in
-        let T = tables base slots.now starts.now shares.now in
-        let o = locate_out file.now T (take n offs.old) (length answers.old) (length further.old) in
-        LocatesHits o n result before after }
-{
-    match insn_locator::locate(
-        file,
-        base,
-        slots,
-        starts,
-        shares,
-        &offs[..n],
-        further,
-        answers,
-    ) {
-        Answer::Done(done) => Answer::Done(n),
-        Answer::Refused(r) => {
-            words::clear(offs);
-            words::clear(marks);
-            Answer::Refused(r)
-        }
-    }
-}
+use refusal::Refusal;
 
 // Scan of a region and locate of its list, over the tables that a build returned or any others. Of the start words those of the
 // methods are passed on, so that locate asks for as many further words as there are methods, however many start words were lent.
@@ -67,7 +28,7 @@ pub fn search(
     marks: &mut [u32],
     further: &mut [u32],
     answers: &mut [u32],
-) -> Answer
+) -> Result<usize, Refusal>
     ensures { let before = search_words (hit_words offs.old marks.old) (locate_words further.old answers.old) in
         let after = search_words (hit_words offs.new marks.new) (locate_words further.new answers.new) in
         let A = asked kind wanted.now region.start region.end in
@@ -78,19 +39,21 @@ pub fn search(
 {
     words::clear(further);
     words::clear(answers);
-    match code_item_scan::scan(file, region.start, region.end, kind, wanted, offs, marks) {
-        Answer::Refused(r) => Answer::Refused(r),
-        Answer::Done(n) => locate_hits(
-            file,
-            region.start / 16,
-            slots,
-            start_words::first(starts, methods),
-            shares,
-            n,
-            offs,
-            marks,
-            further,
-            answers,
-        ),
+    let n = code_item_scan::scan(file, region.start, region.end, kind, wanted, offs, marks)?;
+    let located = insn_locator::locate(
+        file,
+        region.start / 16,
+        slots,
+        start_words::first(starts, methods),
+        shares,
+        &offs[..n],
+        further,
+        answers,
+    );
+    if let Err(r) = located {
+        words::clear(offs);
+        words::clear(marks);
+        return Err(r);
     }
+    Ok(n)
 }

@@ -1,13 +1,14 @@
 // Replays a list of calls, `cases`, through the functions that C calls and those that hand back a part of a slice, and writes a line for
 // each: the operation, the refusal's number, the numbers handed out, and of each lent output the words up to the last that is not 0.
 // README.md has the form of the list.
+// Kept, point 2: `types_of`, `clz_slice` and `name_slice` each ask an operation of their own.
 #![tactic(auto)]
 
 mod case_list;
 
 ghost use Rattle.std.specs.Prelude.{◌≡◌, length};
 
-use case_list::{FILE, QUERY, SECOND, Step, WORDS};
+use case_list::{Case, Operation};
 use std::fs::File;
 use std::io;
 
@@ -16,253 +17,203 @@ const STALE: u32 = 0xa5a5a5a5;
 
 const STALE_KEY: u64 = 0xa5a5a5a5a5a5a5a5;
 
-fn file(case: &[u8]) -> &[u8] {
-    case_list::bytes(case, FILE)
+// A case, with its keys and its lists of words.
+#[derive(Clone, Copy)]
+struct Lent<'a> {
+    case: Case<'a>,
+    keys: &'a [u64],
+    w1: &'a [u32],
+    w2: &'a [u32],
+    w3: &'a [u32],
+    w4: &'a [u32],
 }
 
-fn query(case: &[u8]) -> &[u8] {
-    case_list::bytes(case, QUERY)
-}
+// ---- the operations: each writes the line's numbers, and where it has no lent outputs the whole line
 
-fn place(case: &[u8], i: u8) -> usize {
-    case_list::number(case, i) as usize
-}
-
-// The operation, the refusal's number and the numbers handed out.
-fn print_count(rt: &impl Print, op: u8, refusal: u32, n: usize) -> io::Result<()> {
-    case_list::print_head(rt, op, refusal)?;
-    case_list::print_number(rt, n as u64)
-}
-
-fn print_counts(rt: &impl Print, op: u8, refusal: u32, a: usize, b: usize) -> io::Result<()> {
-    print_count(rt, op, refusal, a)?;
-    case_list::print_number(rt, b as u64)
-}
-
-fn print_code_counts(
-    rt: &impl Print,
-    refusal: u32,
-    region_start: usize,
-    region_end: usize,
-    codes: usize,
-    slots: usize,
-    shares: usize,
-) -> io::Result<()> {
-    print_counts(rt, 10, refusal, region_start, region_end)?;
-    case_list::print_number(rt, codes as u64)?;
-    case_list::print_number(rt, slots as u64)?;
-    case_list::print_number(rt, shares as u64)
-}
-
-// ---- the operations. Those that share how many slices are lent leave the outputs to `answer_one`, `answer_two` and `answer_four`.
-
-fn group(rt: &impl Print, case: &[u8], offsets: &[u32], ids: &[u32]) -> io::Result<()> {
+fn group(rt: &impl Print, lent: &Lent) -> io::Result<()> {
     let mut start = 0;
     let mut count = 0;
-    let key = case_list::number(case, 13);
-    let refusal = ringlinden::ringlinden_group(offsets, ids, key, &mut start, &mut count);
-    print_counts(rt, 3, refusal, start, count)?;
-    case_list::end_line(rt)
+    let key = lent.case.number(13);
+    let refusal = ringlinden::ringlinden_group(lent.w1, lent.w2, key, &mut start, &mut count);
+    case_list::print_numbers(rt, Operation::Group, refusal, &[start, count])?;
+    println!(rt)
 }
 
-fn string_bytes(rt: &impl Print, case: &[u8]) -> io::Result<()> {
+fn string_bytes(rt: &impl Print, lent: &Lent) -> io::Result<()> {
     let mut start = 0;
     let mut count = 0;
     let refusal = ringlinden::ringlinden_string_bytes(
-        file(case),
-        place(case, 13),
+        lent.case.file,
+        lent.case.place(13),
         &mut start,
         &mut count,
     );
-    print_counts(rt, 5, refusal, start, count)?;
-    case_list::end_line(rt)
+    case_list::print_numbers(rt, Operation::StringBytes, refusal, &[start, count])?;
+    println!(rt)
 }
 
-fn string_map(rt: &impl Print, case: &[u8], out: &mut [u64]) -> io::Result<()> {
-    let record = case_list::header(case);
+fn string_map(rt: &impl Print, lent: &Lent, out: &mut [u64]) -> io::Result<()> {
     let mut count = 0;
     let mut start = 0;
     let mut end = 0;
     let refusal = ringlinden::ringlinden_string_map(
-        file(case),
-        &record,
+        lent.case.file,
+        &lent.case.header(),
         out,
         &mut count,
         &mut start,
         &mut end,
     );
-    print_counts(rt, 4, refusal, count, start)?;
-    case_list::print_number(rt, end as u64)?;
-    case_list::print_keys(rt, out)
+    case_list::print_numbers(rt, Operation::StringMap, refusal, &[count, start, end])
 }
 
-fn string_search(rt: &impl Print, case: &[u8], keys: &[u64], out: &mut [u32]) -> io::Result<()> {
+fn string_search(rt: &impl Print, lent: &Lent, out: &mut [u32]) -> io::Result<()> {
     let mut count = 0;
     let refusal = ringlinden::ringlinden_string_search(
-        file(case),
-        keys,
-        place(case, 13),
-        place(case, 14),
-        query(case),
+        lent.case.file,
+        lent.keys,
+        lent.case.place(13),
+        lent.case.place(14),
+        lent.case.query,
         out,
         &mut count,
     );
-    print_count(rt, 6, refusal, count)
+    case_list::print_numbers(rt, Operation::StringSearch, refusal, &[count])
 }
 
-fn name_filter(rt: &impl Print, case: &[u8], given: &[u32], out: &mut [u32]) -> io::Result<()> {
+fn name_filter(rt: &impl Print, lent: &Lent, out: &mut [u32]) -> io::Result<()> {
     let mut count = 0;
     let refusal = ringlinden::ringlinden_name_filter(
-        file(case),
-        given,
-        query(case),
+        lent.case.file,
+        lent.w1,
+        lent.case.query,
         out,
         &mut count,
     );
-    print_count(rt, 9, refusal, count)
+    case_list::print_numbers(rt, Operation::NameFilter, refusal, &[count])
 }
 
-fn list_slot(rt: &impl Print, case: &[u8], shares: &[u32], methods: &mut [u32]) -> io::Result<()> {
+fn list_slot(rt: &impl Print, lent: &Lent, methods: &mut [u32]) -> io::Result<()> {
     let mut count = 0;
-    let slot = case_list::number(case, 13);
-    let refusal = ringlinden::ringlinden_list_slot(shares, slot, methods, &mut count);
-    print_count(rt, 13, refusal, count)
+    let slot = lent.case.number(13);
+    let refusal = ringlinden::ringlinden_list_slot(lent.w1, slot, methods, &mut count);
+    case_list::print_numbers(rt, Operation::ListSlot, refusal, &[count])
 }
 
 fn type_groups(
     rt: &impl Print,
-    case: &[u8],
+    lent: &Lent,
     str_offsets: &mut [u32],
     type_idxs: &mut [u32],
 ) -> io::Result<()> {
-    let record = case_list::header(case);
     let mut count = 0;
     let refusal = ringlinden::ringlinden_type_groups(
-        file(case),
-        &record,
+        lent.case.file,
+        &lent.case.header(),
         str_offsets,
         type_idxs,
         &mut count,
     );
-    print_count(rt, 1, refusal, count)
+    case_list::print_numbers(rt, Operation::TypeGroups, refusal, &[count])
 }
 
 fn type_search(
     rt: &impl Print,
-    case: &[u8],
-    keys: &[u64],
-    str_offsets: &[u32],
-    type_idxs: &[u32],
+    lent: &Lent,
     strings: &mut [u32],
     out: &mut [u32],
 ) -> io::Result<()> {
     let mut count = 0;
     let refusal = ringlinden::ringlinden_type_search(
-        file(case),
-        keys,
-        place(case, 13),
-        place(case, 14),
-        query(case),
-        str_offsets,
-        type_idxs,
+        lent.case.file,
+        lent.keys,
+        lent.case.place(13),
+        lent.case.place(14),
+        lent.case.query,
+        lent.w1,
+        lent.w2,
         strings,
         out,
         &mut count,
     );
-    print_count(rt, 7, refusal, count)
+    case_list::print_numbers(rt, Operation::TypeSearch, refusal, &[count])
 }
 
-fn scan(
-    rt: &impl Print,
-    case: &[u8],
-    wanted: &[u32],
-    offs: &mut [u32],
-    marks: &mut [u32],
-) -> io::Result<()> {
+fn scan(rt: &impl Print, lent: &Lent, offs: &mut [u32], marks: &mut [u32]) -> io::Result<()> {
     let mut count = 0;
     let refusal = ringlinden::ringlinden_scan(
-        file(case),
-        case_list::number(case, 13),
-        case_list::number(case, 14),
-        case_list::number(case, 15),
-        wanted,
+        lent.case.file,
+        lent.case.number(13),
+        lent.case.number(14),
+        lent.case.number(15),
+        lent.w1,
         offs,
         marks,
         &mut count,
     );
-    print_count(rt, 11, refusal, count)
+    case_list::print_numbers(rt, Operation::Scan, refusal, &[count])
 }
 
 fn locate(
     rt: &impl Print,
-    case: &[u8],
-    slots: &[u32],
-    starts: &[u32],
-    shares: &[u32],
-    entries: &[u32],
+    lent: &Lent,
     further: &mut [u32],
     answers: &mut [u32],
 ) -> io::Result<()> {
     let mut count = 0;
     let refusal = ringlinden::ringlinden_locate(
-        file(case),
-        case_list::number(case, 13),
-        slots,
-        starts,
-        shares,
-        entries,
+        lent.case.file,
+        lent.case.number(13),
+        lent.w1,
+        lent.w2,
+        lent.w3,
+        lent.w4,
         further,
         answers,
         &mut count,
     );
-    print_count(rt, 12, refusal, count)
+    case_list::print_numbers(rt, Operation::Locate, refusal, &[count])
 }
 
 fn method_search(
     rt: &impl Print,
-    case: &[u8],
-    keys: &[u64],
-    str_offsets: &[u32],
-    type_idxs: &[u32],
+    lent: &Lent,
     strings: &mut [u32],
     types: &mut [u32],
     out: &mut [u32],
 ) -> io::Result<()> {
-    let record = case_list::header(case);
     let mut count = 0;
     let refusal = ringlinden::ringlinden_method_search(
-        file(case),
-        &record,
-        keys,
-        place(case, 13),
-        place(case, 14),
-        query(case),
-        case_list::bytes(case, SECOND),
-        str_offsets,
-        type_idxs,
+        lent.case.file,
+        &lent.case.header(),
+        lent.keys,
+        lent.case.place(13),
+        lent.case.place(14),
+        lent.case.query,
+        lent.case.second,
+        lent.w1,
+        lent.w2,
         strings,
         types,
         out,
         &mut count,
     );
-    print_count(rt, 8, refusal, count)?;
-    case_list::print_three(rt, strings, types, out)
+    case_list::print_numbers(rt, Operation::MethodSearch, refusal, &[count])
 }
 
 fn method_groups(
     rt: &impl Print,
-    case: &[u8],
+    lent: &Lent,
     clz_offsets: &mut [u32],
     clz_mids: &mut [u32],
     name_offsets: &mut [u32],
     name_mids: &mut [u32],
 ) -> io::Result<()> {
-    let record = case_list::header(case);
     let mut clz_count = 0;
     let mut name_count = 0;
     let refusal = ringlinden::ringlinden_method_groups(
-        file(case),
-        &record,
+        lent.case.file,
+        &lent.case.header(),
         clz_offsets,
         clz_mids,
         name_offsets,
@@ -270,26 +221,30 @@ fn method_groups(
         &mut clz_count,
         &mut name_count,
     );
-    print_counts(rt, 2, refusal, clz_count, name_count)
+    case_list::print_numbers(
+        rt,
+        Operation::MethodGroups,
+        refusal,
+        &[clz_count, name_count],
+    )
 }
 
 fn code_table(
     rt: &impl Print,
-    case: &[u8],
+    lent: &Lent,
     starts: &mut [u32],
     triples: &mut [u32],
     slots: &mut [u32],
     shares: &mut [u32],
 ) -> io::Result<()> {
-    let record = case_list::header(case);
     let mut region_start = 0;
     let mut region_end = 0;
     let mut codes = 0;
     let mut slot_count = 0;
     let mut share_count = 0;
     let refusal = ringlinden::ringlinden_code_table(
-        file(case),
-        &record,
+        lent.case.file,
+        &lent.case.header(),
         starts,
         triples,
         slots,
@@ -300,397 +255,179 @@ fn code_table(
         &mut slot_count,
         &mut share_count,
     );
-    print_code_counts(
-        rt,
-        refusal,
-        region_start,
-        region_end,
-        codes,
-        slot_count,
-        share_count,
-    )
+    let numbers = [region_start, region_end, codes, slot_count, share_count];
+    case_list::print_numbers(rt, Operation::CodeTable, refusal, &numbers)
 }
 
 // ---- the functions that hand back a part of what they are lent, which C doesn't have: the part's length and the part
 
-fn string_data_bytes(rt: &impl Print, case: &[u8]) -> io::Result<()> {
-    let text = string_data::string_data_bytes(file(case), place(case, 13));
-    print_count(rt, 14, 0, text.len())?;
-    case_list::print_bytes(rt, text)
+fn string_data_bytes(rt: &impl Print, lent: &Lent) -> io::Result<()> {
+    let text = string_data::string_data_bytes(lent.case.file, lent.case.place(13));
+    case_list::print_numbers(rt, Operation::StringDataBytes, 0, &[text.len()])?;
+    case_list::print_list(rt, text)?;
+    println!(rt)
 }
 
-fn print_part(rt: &impl Print, op: u8, part: &[u32]) -> io::Result<()> {
-    print_count(rt, op, 0, part.len())?;
-    case_list::print_one(rt, part)
+fn print_part(rt: &impl Print, operation: Operation, part: &[u32]) -> io::Result<()> {
+    case_list::print_numbers(rt, operation, 0, &[part.len()])?;
+    case_list::print_outputs(rt, &[part])
 }
 
-fn types_of(
-    rt: &impl Print,
-    case: &[u8],
-    str_offsets: &[u32],
-    type_idxs: &[u32],
-) -> io::Result<()> {
-    let str_idx = case_list::number(case, 13);
-    print_part(
-        rt,
-        15,
-        type_locator::types_of(str_offsets, type_idxs, str_idx),
-    )
+fn types_of(rt: &impl Print, lent: &Lent) -> io::Result<()> {
+    let part = type_locator::types_of(lent.w1, lent.w2, lent.case.number(13));
+    print_part(rt, Operation::TypesOf, part)
 }
 
-fn clz_slice(
-    rt: &impl Print,
-    case: &[u8],
-    clz_offsets: &[u32],
-    clz_mids: &[u32],
-) -> io::Result<()> {
-    let class_idx = case_list::number(case, 13);
-    print_part(
-        rt,
-        16,
-        method_locator::clz_slice(clz_offsets, clz_mids, class_idx),
-    )
+fn clz_slice(rt: &impl Print, lent: &Lent) -> io::Result<()> {
+    let part = method_locator::clz_slice(lent.w1, lent.w2, lent.case.number(13));
+    print_part(rt, Operation::ClzSlice, part)
 }
 
-fn name_slice(
-    rt: &impl Print,
-    case: &[u8],
-    name_offsets: &[u32],
-    name_mids: &[u32],
-) -> io::Result<()> {
-    let name_idx = case_list::number(case, 13);
-    print_part(
-        rt,
-        17,
-        method_locator::name_slice(name_offsets, name_mids, name_idx),
-    )
+fn name_slice(rt: &impl Print, lent: &Lent) -> io::Result<()> {
+    let part = method_locator::name_slice(lent.w1, lent.w2, lent.case.number(13));
+    print_part(rt, Operation::NameSlice, part)
 }
 
 // ---- outputs that hold stale words are lent to the operation of a case
 
-fn lend_keys(rt: &impl Print, case: &[u8]) -> io::Result<()> {
-    let mut o = [STALE_KEY; 1024];
-    let n = case_list::lent(case, 0);
-    string_map(rt, case, &mut o[..n])
+fn lend_keys(rt: &impl Print, lent: &Lent) -> io::Result<()> {
+    let mut r1 = [STALE_KEY; 1024];
+    let o1 = &mut r1[..lent.case.lent(0)];
+    string_map(rt, lent, o1)?;
+    case_list::print_outputs(rt, &[o1])
 }
 
-fn call_one(
-    rt: &impl Print,
-    op: u32,
-    case: &[u8],
-    keys: &[u64],
-    w1: &[u32],
-    o1: &mut [u32],
-) -> io::Result<()> {
-    match op {
-        6 => string_search(rt, case, keys, o1),
-        9 => name_filter(rt, case, w1, o1),
-        _ => list_slot(rt, case, w1, o1),
+fn lend_one(rt: &impl Print, lent: &Lent) -> io::Result<()> {
+    let mut r1 = [STALE; 1024];
+    let o1 = &mut r1[..lent.case.lent(0)];
+    match lent.case.operation {
+        Operation::StringSearch => string_search(rt, lent, o1)?,
+        Operation::NameFilter => name_filter(rt, lent, o1)?,
+        _ => list_slot(rt, lent, o1)?,
     }
+    case_list::print_outputs(rt, &[o1])
 }
 
-fn answer_one(
-    rt: &impl Print,
-    op: u32,
-    case: &[u8],
-    keys: &[u64],
-    w1: &[u32],
-    o1: &mut [u32],
-) -> io::Result<()> {
-    call_one(rt, op, case, keys, w1, o1)?;
-    case_list::print_one(rt, o1)
-}
-
-fn lend_one(rt: &impl Print, op: u32, case: &[u8], keys: &[u64], w1: &[u32]) -> io::Result<()> {
-    let mut o1 = [STALE; 1024];
-    let n1 = case_list::lent(case, 0);
-    answer_one(rt, op, case, keys, w1, &mut o1[..n1])
-}
-
-fn call_two(
-    rt: &impl Print,
-    op: u32,
-    case: &[u8],
-    keys: &[u64],
-    w1: &[u32],
-    w2: &[u32],
-    w3: &[u32],
-    w4: &[u32],
-    o1: &mut [u32],
-    o2: &mut [u32],
-) -> io::Result<()> {
-    match op {
-        1 => type_groups(rt, case, o1, o2),
-        7 => type_search(rt, case, keys, w1, w2, o1, o2),
-        11 => scan(rt, case, w1, o1, o2),
-        _ => locate(rt, case, w1, w2, w3, w4, o1, o2),
+fn lend_two(rt: &impl Print, lent: &Lent) -> io::Result<()> {
+    let mut r1 = [STALE; 1024];
+    let mut r2 = [STALE; 1024];
+    let o1 = &mut r1[..lent.case.lent(0)];
+    let o2 = &mut r2[..lent.case.lent(1)];
+    match lent.case.operation {
+        Operation::TypeGroups => type_groups(rt, lent, o1, o2)?,
+        Operation::TypeSearch => type_search(rt, lent, o1, o2)?,
+        Operation::Scan => scan(rt, lent, o1, o2)?,
+        _ => locate(rt, lent, o1, o2)?,
     }
+    case_list::print_outputs(rt, &[o1, o2])
 }
 
-fn answer_two(
-    rt: &impl Print,
-    op: u32,
-    case: &[u8],
-    keys: &[u64],
-    w1: &[u32],
-    w2: &[u32],
-    w3: &[u32],
-    w4: &[u32],
-    o1: &mut [u32],
-    o2: &mut [u32],
-) -> io::Result<()> {
-    call_two(rt, op, case, keys, w1, w2, w3, w4, o1, o2)?;
-    case_list::print_two(rt, o1, o2)
+fn lend_three(rt: &impl Print, lent: &Lent) -> io::Result<()> {
+    let mut r1 = [STALE; 1024];
+    let mut r2 = [STALE; 1024];
+    let mut r3 = [STALE; 1024];
+    let o1 = &mut r1[..lent.case.lent(0)];
+    let o2 = &mut r2[..lent.case.lent(1)];
+    let o3 = &mut r3[..lent.case.lent(2)];
+    method_search(rt, lent, o1, o2, o3)?;
+    case_list::print_outputs(rt, &[o1, o2, o3])
 }
 
-fn lend_two(
-    rt: &impl Print,
-    op: u32,
-    case: &[u8],
-    keys: &[u64],
-    w1: &[u32],
-    w2: &[u32],
-    w3: &[u32],
-    w4: &[u32],
-) -> io::Result<()> {
-    let mut o1 = [STALE; 1024];
-    let mut o2 = [STALE; 1024];
-    let n1 = case_list::lent(case, 0);
-    let n2 = case_list::lent(case, 1);
-    answer_two(
-        rt,
-        op,
-        case,
-        keys,
-        w1,
-        w2,
-        w3,
-        w4,
-        &mut o1[..n1],
-        &mut o2[..n2],
-    )
-}
-
-fn lend_three(
-    rt: &impl Print,
-    case: &[u8],
-    keys: &[u64],
-    w1: &[u32],
-    w2: &[u32],
-) -> io::Result<()> {
-    let mut o1 = [STALE; 1024];
-    let mut o2 = [STALE; 1024];
-    let mut o3 = [STALE; 1024];
-    let n1 = case_list::lent(case, 0);
-    let n2 = case_list::lent(case, 1);
-    let n3 = case_list::lent(case, 2);
-    method_search(
-        rt,
-        case,
-        keys,
-        w1,
-        w2,
-        &mut o1[..n1],
-        &mut o2[..n2],
-        &mut o3[..n3],
-    )
-}
-
-fn call_four(
-    rt: &impl Print,
-    op: u32,
-    case: &[u8],
-    o1: &mut [u32],
-    o2: &mut [u32],
-    o3: &mut [u32],
-    o4: &mut [u32],
-) -> io::Result<()> {
-    if op == 2 {
-        method_groups(rt, case, o1, o2, o3, o4)
-    } else {
-        code_table(rt, case, o1, o2, o3, o4)
+fn lend_four(rt: &impl Print, lent: &Lent) -> io::Result<()> {
+    let mut r1 = [STALE; 1024];
+    let mut r2 = [STALE; 1024];
+    let mut r3 = [STALE; 1024];
+    let mut r4 = [STALE; 1024];
+    let o1 = &mut r1[..lent.case.lent(0)];
+    let o2 = &mut r2[..lent.case.lent(1)];
+    let o3 = &mut r3[..lent.case.lent(2)];
+    let o4 = &mut r4[..lent.case.lent(3)];
+    match lent.case.operation {
+        Operation::MethodGroups => method_groups(rt, lent, o1, o2, o3, o4)?,
+        _ => code_table(rt, lent, o1, o2, o3, o4)?,
     }
+    case_list::print_outputs(rt, &[o1, o2, o3, o4])
 }
 
-fn answer_four(
-    rt: &impl Print,
-    op: u32,
-    case: &[u8],
-    o1: &mut [u32],
-    o2: &mut [u32],
-    o3: &mut [u32],
-    o4: &mut [u32],
-) -> io::Result<()> {
-    call_four(rt, op, case, o1, o2, o3, o4)?;
-    case_list::print_four(rt, o1, o2, o3, o4)
-}
-
-fn lend_four(rt: &impl Print, op: u32, case: &[u8]) -> io::Result<()> {
-    let mut o1 = [STALE; 1024];
-    let mut o2 = [STALE; 1024];
-    let mut o3 = [STALE; 1024];
-    let mut o4 = [STALE; 1024];
-    let n1 = case_list::lent(case, 0);
-    let n2 = case_list::lent(case, 1);
-    let n3 = case_list::lent(case, 2);
-    let n4 = case_list::lent(case, 3);
-    answer_four(
-        rt,
-        op,
-        case,
-        &mut o1[..n1],
-        &mut o2[..n2],
-        &mut o3[..n3],
-        &mut o4[..n4],
-    )
-}
-
-fn call(
-    rt: &impl Print,
-    case: &[u8],
-    keys: &[u64],
-    w1: &[u32],
-    w2: &[u32],
-    w3: &[u32],
-    w4: &[u32],
-) -> io::Result<()> {
-    let op = structs::u32_at(case, 0);
-    match op {
-        3 => group(rt, case, w1, w2),
-        5 => string_bytes(rt, case),
-        4 => lend_keys(rt, case),
-        6 => lend_one(rt, op, case, keys, w1),
-        9 => lend_one(rt, op, case, keys, w1),
-        13 => lend_one(rt, op, case, keys, w1),
-        8 => lend_three(rt, case, keys, w1, w2),
-        2 => lend_four(rt, op, case),
-        10 => lend_four(rt, op, case),
-        14 => string_data_bytes(rt, case),
-        15 => types_of(rt, case, w1, w2),
-        16 => clz_slice(rt, case, w1, w2),
-        17 => name_slice(rt, case, w1, w2),
-        _ => lend_two(rt, op, case, keys, w1, w2, w3, w4),
+fn call(rt: &impl Print, lent: &Lent) -> io::Result<()> {
+    match lent.case.operation {
+        Operation::Group => group(rt, lent),
+        Operation::StringBytes => string_bytes(rt, lent),
+        Operation::StringDataBytes => string_data_bytes(rt, lent),
+        Operation::TypesOf => types_of(rt, lent),
+        Operation::ClzSlice => clz_slice(rt, lent),
+        Operation::NameSlice => name_slice(rt, lent),
+        Operation::StringMap => lend_keys(rt, lent),
+        Operation::StringSearch | Operation::NameFilter | Operation::ListSlot => lend_one(rt, lent),
+        Operation::TypeGroups | Operation::TypeSearch | Operation::Scan | Operation::Locate => {
+            lend_two(rt, lent)
+        }
+        Operation::MethodSearch => lend_three(rt, lent),
+        Operation::MethodGroups | Operation::CodeTable => lend_four(rt, lent),
     }
-}
-
-// ---- the lists of a case are loaded one after another, each in a function of its own
-
-fn with_fourth(
-    rt: &impl Print,
-    case: &[u8],
-    keys: &[u64],
-    w1: &[u32],
-    w2: &[u32],
-    w3: &[u32],
-) -> io::Result<()> {
-    let room = case_list::loaded(case, WORDS + 3);
-    call(
-        rt,
-        case,
-        keys,
-        w1,
-        w2,
-        w3,
-        case_list::given(&room, case, WORDS + 3),
-    )
-}
-
-fn with_third(
-    rt: &impl Print,
-    case: &[u8],
-    keys: &[u64],
-    w1: &[u32],
-    w2: &[u32],
-) -> io::Result<()> {
-    let room = case_list::loaded(case, WORDS + 2);
-    with_fourth(
-        rt,
-        case,
-        keys,
-        w1,
-        w2,
-        case_list::given(&room, case, WORDS + 2),
-    )
-}
-
-fn with_second(rt: &impl Print, case: &[u8], keys: &[u64], w1: &[u32]) -> io::Result<()> {
-    let room = case_list::loaded(case, WORDS + 1);
-    with_third(rt, case, keys, w1, case_list::given(&room, case, WORDS + 1))
-}
-
-fn with_first(rt: &impl Print, case: &[u8], keys: &[u64]) -> io::Result<()> {
-    let room = case_list::loaded(case, WORDS);
-    with_second(rt, case, keys, case_list::given(&room, case, WORDS))
-}
-
-fn run(rt: &impl Print, case: &[u8]) -> io::Result<()> {
-    let room = case_list::loaded_keys(case);
-    with_first(rt, case, case_list::given_keys(&room, case))
 }
 
 // ---- the list
 
-// Whether there is such an operation.
-fn known(op: u32) -> bool {
-    if op < 1 { false } else { op <= 17 }
-}
-
-// Whether there is such an operation, and room for its outputs: then it is called.
-fn called(rt: &impl Print, case: &[u8]) -> io::Result<bool> {
-    if known(structs::u32_at(case, 0)) {
-        if case_list::fit(case) {
-            run(rt, case)?;
-            return Ok(true);
-        }
-    }
-    Ok(false)
-}
-
-// The case at a place, and the place after it.
-fn one(rt: &impl Print, text: &[u8], at: usize) -> io::Result<Step> {
-    let rest = case_list::from(text, at);
-    let Step::To(n) = case_list::end(rest) else {
-        return Ok(Step::Bad);
+fn run(rt: &impl Print, case: Case) -> io::Result<()> {
+    let keys = case_list::items(case.keys, 8, case_list::key);
+    let w1 = case_list::items(case.w1, 4, case_list::word);
+    let w2 = case_list::items(case.w2, 4, case_list::word);
+    let w3 = case_list::items(case.w3, 4, case_list::word);
+    let w4 = case_list::items(case.w4, 4, case_list::word);
+    let lent = Lent {
+        case,
+        keys: case_list::first(&keys, case.keys.len() / 8),
+        w1: case_list::first(&w1, case.w1.len() / 4),
+        w2: case_list::first(&w2, case.w2.len() / 4),
+        w3: case_list::first(&w3, case.w3.len() / 4),
+        w4: case_list::first(&w4, case.w4.len() / 4),
     };
-    if called(rt, case_list::first(rest, n))? {
-        return Ok(case_list::after(text, at, n));
-    }
-    Ok(Step::Bad)
+    call(rt, &lent)
 }
 
-// n cases, one after another.
-fn cases(rt: &impl Print, text: &[u8], n: u32) -> io::Result<Step> {
-    let mut at = 4;
-    let mut i = 0;
-    while i < n {
-        let Step::To(next) = one(rt, text, at)? else {
-            return Ok(Step::Bad);
+// Calls the case that the bytes begin with, and hands back what stands after it.
+fn one<'a>(rt: &impl Print, text: &'a [u8]) -> io::Result<Option<&'a [u8]>> {
+    let Some((case, rest)) = Case::read(text) else {
+        return Ok(None);
+    };
+    run(rt, case)?;
+    Ok(Some(rest))
+}
+
+// n cases, one after another, and what stands after them.
+fn cases<'a>(rt: &impl Print, text: &'a [u8], n: u32) -> io::Result<Option<&'a [u8]>> {
+    let mut rest = text;
+    for _ in 0..n {
+        let Some(next) = one(rt, rest)? else {
+            return Ok(None);
         };
-        at = next;
-        i += 1;
+        rest = next;
     }
-    Ok(Step::To(at))
+    Ok(Some(rest))
 }
 
 // The whole list: nothing stands after its last case.
 fn whole(rt: &impl Print, text: &[u8]) -> io::Result<bool> {
-    match cases(rt, text, structs::u32_at(text, 0))? {
-        Step::To(end) => Ok(end == text.len()),
-        Step::Bad => Ok(false),
-    }
+    let Some((count, list)) = text.split_at_checked(4) else {
+        return Ok(false);
+    };
+    let rest = cases(rt, list, case_list::word(count))?;
+    Ok(rest.is_some_and(|bytes| bytes.is_empty()))
 }
 
 fn replay(rt: &impl Print, text: &[u8]) -> io::Result<()> {
     if whole(rt, text)? {
         return Ok(());
     }
-    case_list::print(rt, b"bad case\n")
+    println!(rt; "bad case")
 }
 
 // How many bytes the list may have.
 const MOST_BYTES: usize = 1048576;
 
-// Room for the longest list of cases, and a byte more.
+// Room for the longest list of cases, and a byte more. It stands by itself, since the check lays out an array's literal where its length
+// is asked for.
 fn buffer() -> [u8; 1048577]
     ensures { 1048577 ≡ length result }
 {
@@ -707,7 +444,7 @@ fn main(rt: HostRuntime) -> io::Result<()> {
     let n = bytes_in::read_full(&mut input, &mut text);
     drop(input);
     if MOST_BYTES < n {
-        return case_list::print(&rt, b"bad case\n");
+        return println!(rt; "bad case");
     }
     replay(&rt, &text[..n])
 }

@@ -1,88 +1,56 @@
--- The whole request: each line read brings the outcome one step on, and the words lent are counted last.
+-- The whole request: what the lines say is the outcome, once the words lent are counted; a refusal leaves zeros.
 -- Assumes nothing.
+use Rattle.std.specs.Prelude.{Option, Some, None, Result, Ok}
 use Prim.Native.Nat.{ℕ, ◌<◌, ◌≤◌}
 use native.Mathlib.Omega.{arith}
 use mathlib.Core.Path.{◌≡◌, refl, sym, ap, ◌∙◌}
 use mathlib.Core.List.{List}
 use lib.ListN.{length}
 use lib.Seq.{sets}
-use borrow.Author.Tests.{le-leb, lt-leb, eq-eqb, ne_eqb}
+use borrow.Author.Tests.{le-leb, lt-leb}
 use Rattle.words.specs.Padded.{zeros, padded}
+use Rattle.words.proofs.Shared.{some_inj}
 use Rattle.words.proofs.Padded.{padded_none, sets_zeros}
 use Rattle.refusal.specs.declared.Refusal.{Refusal}
 use Rattle.refusal.specs.Refusals.{refusal_number}
-use Rattle.tinydex.specs.declared.DexHeader.{DexHeader}
-use Rattle.request.specs.Lines.{kind_line}
-use Rattle.text_in.specs.declared.Number.TheVariants as n
-use Rattle.request.specs.Request.{header_lines, index_line, said, malformed, to_the_end, said_by, fitted, refused, Outcome, request_of, Says}
-use Rattle.request.specs.Steps.{stored, view, RefusedBy}
-use Rattle.request.specs.declared.Header.TheVariants as h
-use Rattle.request.specs.declared.Indices.TheVariants as x
+use Rattle.request.specs.Request.{Said, fitted, refused, Outcome, Says}
+use Rattle.request.specs.Steps.{asked, asked_by, RefusedBy}
 use Rattle.request.specs.declared.Request.{Request}
-use Rattle.request.specs.declared.Request.TheVariants.{Asked}
-use Rattle.request.proofs.Laws.{read_none, ReadAll, read_all}
 
--- ---- the outcome, line by line
+pub malformed : (room : ℕ) (ws us : List ℕ) (o : Option Said) → asked None us ≡ asked_by ws o → fitted room o ≡ refused 14
+unfolding asked asked_by
+malformed room ws us None e = refl
+malformed room ws us (Some x) e = absurd (cc)
 
-module _ (s : List ℕ) (room : ℕ) where
-  bad : said_by s ≡ malformed → request_of s room ≡ refused 14
-  unfolding request_of
-  bad e = ap (fitted room) e
+pub more_indices : (room : ℕ) (ws us : List ℕ) (o : Option Said) (q : Request) → asked (Some q) us ≡ asked_by ws o → room < q.count
+    → fitted room o ≡ refused 4
+unfolding asked asked_by
+more_indices room ws us None q e h = absurd (cc)
+more_indices room ws us (Some x) q e h =
+    let counted : q.count ≡ length x.indices = ap (λ (z : Request × List ℕ). z.0.count) (some_inj e) in
+    rw (lt-leb (length x.indices) room (omega arith))
 
-  pub no_header : h.Nothing ≡ header_lines s → request_of s room ≡ refused 14
-  unfolding said_by
-  no_header e = bad (rw (← e))
+-- the words were zero before
+pub says_asked : {room : ℕ} {ws us : List ℕ} (o : Option Said) (q : Request) → asked (Some q) us ≡ asked_by ws o → q.count ≤ room
+    → ws ≡ zeros room
+    → (before : List ℕ) → length before ≡ room → Says (fitted room o) (Ok q) before us
+unfolding asked asked_by
+says_asked None q e h w before t = absurd (cc)
+says_asked {room} {ws} {us} (Some x) q e h w before t =
+    let same = some_inj e in
+    let counted : q.count ≡ length x.indices = ap (λ (z : Request × List ℕ). z.0.count) same in
+    let fits : length x.indices ≤ room = omega arith in
+    rw (le-leb (length x.indices) room fits) (record {
+      number = refl;
+      header = ap (λ (z : Request × List ℕ). z.0.header) same;
+      kind = ap (λ (z : Request × List ℕ). z.0.kind) same;
+      count = counted;
+      wanted =
+          ap (λ (z : Request × List ℕ). z.1) same ∙ (ap (λ (v : List ℕ). sets v 0 x.indices) w
+          ∙ (sets_zeros room x.indices refl fits ∙ ap (λ (k : ℕ). padded k x.indices) (sym t)));
+    })
 
-  module _ {d : DexHeader} {a : ℕ} (e : h.At d a ≡ header_lines s) where
-    pub no_kind : n.Nothing ≡ kind_line s a → request_of s room ≡ refused 14
-    unfolding said_by
-    no_kind f = bad (rw (← e, ← f))
-
-    module _ {k b : ℕ} (f : n.Value k b ≡ kind_line s a) where
-      lines : said_by s ≡ to_the_end s d k (index_line s b)
-      unfolding said_by
-      lines = rw (← e, ← f)
-
-      pub no_index : (ws us : List ℕ) → view x.Nothing us ≡ stored 0 ws (index_line s b) → request_of s room ≡ refused 14
-      no_index ws us g = bad (lines ∙ ap (to_the_end s d k) (read_none ws us (index_line s b) g))
-
-      -- the indices are read
-      module _ (ws us : List ℕ) (m c : ℕ) (g : view (x.Read m c) us ≡ stored 0 ws (index_line s b)) where
-        all : ReadAll ws us m c (index_line s b)
-        all = read_all ws us m c (index_line s b) g
-
-        pub more_text : (c ≡ length s → ⊥) → request_of s room ≡ refused 14
-        more_text q = bad (lines ∙ (ap (to_the_end s d k) all.is ∙ simp (ne_eqb c (length s) q)))
-
-        module _ (q : c ≡ length s) where
-          whole : request_of s room ≡ fitted room (said d k all.list)
-          unfolding request_of
-          whole =
-              let e : said_by s ≡ said d k all.list = lines ∙ (ap (to_the_end s d k) all.is ∙ simp (eq-eqb c (length s) q)) in
-              ap (fitted room) e
-
-          pub more_indices : room < m → request_of s room ≡ refused 4
-          more_indices h =
-              let l : room < length all.list = omega (arith, all.counted) in
-              whole ∙ simp (lt-leb (length all.list) room l)
-
-          -- the words were zero before
-          pub says_asked : m ≤ room → ws ≡ zeros room → (before : List ℕ) → length before ≡ room → Says (request_of s room) (Asked d k m) before us
-          says_asked h w before t =
-              let l : length all.list ≤ room = omega (arith, all.counted) in
-              rw (whole, le-leb (length all.list) room l) (record {
-                number = refl;
-                header = refl;
-                kind = refl;
-                count = all.counted;
-                wanted =
-                    all.words ∙ (ap (λ (v : List ℕ). sets v 0 all.list) w
-                    ∙ (sets_zeros room all.list refl l ∙ ap (λ (k : ℕ). padded k all.list) (sym t)));
-              })
-
--- ---- a refusal
-
-pub says_refused : {o : Outcome} (why : Refusal) {q : Request} {before ws after : List ℕ} → o ≡ refused (refusal_number why)
+pub says_refused : {o : Outcome} (why : Refusal) {q : Result Request Refusal} {before ws after : List ℕ} → o ≡ refused (refusal_number why)
     → length ws ≡ length before
     → RefusedBy why q ws after → Says o q before after
 says_refused why {before = before} e h r =

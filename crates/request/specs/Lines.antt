@@ -1,13 +1,12 @@
 -- The lines of a request: SPEC, The program refs. A line is a name, then numbers or a kind, and its end.
 -- Assumes nothing.
-use Rattle.std.specs.Prelude.{ℕ, List, [], ◌∷◌}
+use Rattle.std.specs.Prelude.{ℕ, List, [], ◌∷◌, Option, Some}
+use Rattle.std.specs.Option.{option_or}
 use Rattle.text_in.specs.declared.Number.{Number}
-use Rattle.text_in.specs.declared.Number.TheVariants as n
-use Rattle.text_in.specs.Numbers.{number_at, on_number}
-use Rattle.text_in.specs.Words.{word_at, line_end, on_place}
+use Rattle.text_in.specs.Bind.{◌>>=◌}
+use Rattle.text_in.specs.Numbers.{number_at}
+use Rattle.text_in.specs.Words.{word_at, line_end}
 use Rattle.request.specs.declared.lines.Pair.{Pair}
-use Rattle.request.specs.declared.lines.Pair.TheVariants as q
-use Rattle.tinydex.specs.declared.Table.{Table}
 
 -- the letters of the request's words
 abbrev pub comma : List ℕ
@@ -29,36 +28,39 @@ abbrev pub kind= : List ℕ
 kind= = 107 ∷ 105 ∷ 110 ∷ 100 ∷ 61 ∷ []
 
 -- a number that was read, and the line's end after it
-unfoldable pub ended : List ℕ → Number → Number
-ended s r = on_number r n.Nothing (λ v b. on_place (line_end s b) n.Nothing (λ c. n.Value v c))
+unfoldable pub ended : List ℕ → Number → Option Number
+ended s r = do
+  next ← line_end s r.next
+  Some (record { value = r.value; next = next })
 
 -- name, number, line end
-unfoldable pub number_line : List ℕ → List ℕ → ℕ → Number
-number_line name s i = on_place (word_at name s i) n.Nothing (λ a. ended s (number_at s a))
+unfoldable pub number_line : List ℕ → List ℕ → ℕ → Option Number
+number_line name s i = do
+  start ← word_at name s i
+  number ← number_at s start
+  ended s number
 
 -- name, number, and then comma, number, line end
-unfoldable pub pair_line : List ℕ → List ℕ → ℕ → Pair
-pair_line name s i =
-    on_place (word_at name s i) q.Nothing (λ a.
-    on_number (number_at s a) q.Nothing (λ off b.
-    on_number (number_line comma s b) q.Nothing (λ size c.
-    q.At (record { off = off; size = size }) c)))
+unfoldable pub pair_line : List ℕ → List ℕ → ℕ → Option Pair
+pair_line name s i = do
+  start ← word_at name s i
+  off ← number_at s start
+  size ← number_line comma s off.next
+  Some (record { table = record { off = off.value; size = size.value }; next = size.next })
 
-abbrev pub on_pair {ℓ} : {A : Type ℓ} → Pair → A → (Table → ℕ → A) → A
-on_pair (q.At t e) a g = g t e
-on_pair q.Nothing a g = a
+unfoldable pub kind_named : List ℕ → ℕ → List ℕ → ℕ → Option Number
+kind_named name kind s i = do
+  next ← word_at name s i
+  Some (record { value = kind; next = next })
 
 -- the kinds 1 to 4 (SPEC, Conventions)
-unfoldable pub kind_at : List ℕ → ℕ → Number
+unfoldable pub kind_at : List ℕ → ℕ → Option Number
 kind_at s i =
-    on_place (word_at string' s i)
-    (on_place (word_at type' s i)
-    (on_place (word_at field' s i)
-    (on_place (word_at method' s i) n.Nothing (λ d. n.Value 4 d))
-    (λ c. n.Value 3 c))
-    (λ b. n.Value 2 b))
-    (λ a. n.Value 1 a)
+    option_or (option_or (option_or (kind_named string' 1 s i) (kind_named type' 2 s i)) (kind_named field' 3 s i)) (kind_named method' 4 s i)
 
 -- name, kind, line end
-unfoldable pub kind_line : List ℕ → ℕ → Number
-kind_line s i = on_place (word_at kind= s i) n.Nothing (λ a. ended s (kind_at s a))
+unfoldable pub kind_line : List ℕ → ℕ → Option Number
+kind_line s i = do
+  start ← word_at kind= s i
+  kind ← kind_at s start
+  ended s kind

@@ -1,17 +1,18 @@
 -- A request, whole: SPEC, The program refs. Nothing may stand after the last line.
 -- Assumes nothing.
-use Rattle.std.specs.Prelude.{ℕ, zero, suc, ◌≡◌, List, [], ◌∷◌, cond, length, leb, eqb}
+use Rattle.std.specs.Prelude.{ℕ, zero, suc, ◌≡◌, List, [], ◌∷◌, cond, length, leb, eqb, Option, Some, None, option_map, Result, Ok, Err}
 use Rattle.words.specs.Padded.{padded}
 use Rattle.refusal.specs.Refusals.{refusal_number}
+use Rattle.refusal.specs.declared.Refusal.{Refusal}
 use Rattle.tinydex.specs.declared.DexHeader.{DexHeader}
 use Rattle.tinydex.specs.declared.Table.{Table}
-use Rattle.text_in.specs.Numbers.{number_at, on_number}
-use Rattle.text_in.specs.Words.{word_at, line_end, on_place}
-use Rattle.request.specs.Lines.{pair_line, on_pair, number_line, kind_line, comma}
+use Rattle.text_in.specs.declared.Number.{Number}
+use Rattle.text_in.specs.Bind.{◌>>=◌}
+use Rattle.text_in.specs.Numbers.{number_at}
+use Rattle.text_in.specs.Words.{word_at, line_end}
+use Rattle.request.specs.Lines.{pair_line, number_line, kind_line, comma}
 use Rattle.request.specs.declared.Header.{Header}
-use Rattle.request.specs.declared.Header.TheVariants as h
 use Rattle.request.specs.declared.Request.{Request}
-use Rattle.request.specs.declared.Request.TheVariants as r
 
 -- the names, letter by letter
 abbrev pub strings= : List ℕ
@@ -39,76 +40,80 @@ abbrev pub index= : List ℕ
 index= = 105 ∷ 110 ∷ 100 ∷ 101 ∷ 120 ∷ 61 ∷ []
 
 -- the record's last four lines, in their order, after those of the three tables given
-unfoldable pub rest_lines : Table → Table → Table → List ℕ → ℕ → Header
-rest_lines strings types prototypes s i =
-    on_pair (pair_line fields= s i) h.Nothing (λ fields a.
-    on_pair (pair_line methods= s a) h.Nothing (λ methods b.
-    on_pair (pair_line classes= s b) h.Nothing (λ classes c.
-    on_number (number_line mapoff= s c) h.Nothing (λ mapoff d.
-    h.At (
-    record {
+unfoldable pub rest_lines : Table → Table → Table → List ℕ → ℕ → Option Header
+rest_lines strings types prototypes s i = do
+  fields ← pair_line fields= s i
+  methods ← pair_line methods= s fields.next
+  classes ← pair_line classes= s methods.next
+  mapoff ← number_line mapoff= s classes.next
+  Some (record {
+    header = record {
       strings = strings;
       types = types;
       prototypes = prototypes;
-      fields = fields;
-      methods = methods;
-      classes = classes;
-      mapoff = mapoff;
-    }) d))))
+      fields = fields.table;
+      methods = methods.table;
+      classes = classes.table;
+      mapoff = mapoff.value;
+    };
+    next = mapoff.next;
+  })
 
 -- the record's lines, in their order
-unfoldable pub header_lines : List ℕ → Header
-header_lines s =
-    on_pair (pair_line strings= s 0) h.Nothing (λ strings a.
-    on_pair (pair_line types= s a) h.Nothing (λ types b.
-    on_pair (pair_line prototypes= s b) h.Nothing (λ prototypes c.
-    rest_lines strings types prototypes s c)))
+unfoldable pub header_lines : List ℕ → Option Header
+header_lines s = do
+  strings ← pair_line strings= s 0
+  types ← pair_line types= s strings.next
+  prototypes ← pair_line prototypes= s types.next
+  rest_lines strings.table types.table prototypes.table s prototypes.next
 
--- a list of numbers and the place after it, or none
-pub data Listed : Type 0 where
-  listed : List ℕ → ℕ → Listed
-  none : Listed
+-- a list of numbers and the place after it
+pub record Listed : Type 0 where
+  pub list : List ℕ
+  pub next : ℕ
 
 abbrev pub cons_to : ℕ → Listed → Listed
-cons_to v (listed vs p) = listed (v ∷ vs) p
-cons_to v none = none
+cons_to v l = record { list = v ∷ l.list; next = l.next }
+
+-- a number, and the list after its comma; without a comma the number alone
+abbrev pub with_more : Number → (ℕ → Option Listed) → Option ℕ → Option Listed
+with_more v more None = Some (record { list = v.value ∷ []; next = v.next })
+with_more v more (Some i) = option_map (cons_to v.value) (more i)
 
 abbrev pub most_indices : ℕ
 most_indices = 16
 
 -- one number or more, at most k, with commas between them
-unfoldable pub indices_at : ℕ → List ℕ → ℕ → Listed
-indices_at zero s i = none
-indices_at (suc k) s i =
-    on_number (number_at s i) none (λ v p. on_place (word_at comma s p) (listed (v ∷ []) p) (λ q. cons_to v (indices_at k s q)))
+unfoldable pub indices_at : ℕ → List ℕ → ℕ → Option Listed
+indices_at zero s i = None
+indices_at (suc k) s i = do
+  v ← number_at s i
+  with_more v (indices_at k s) (word_at comma s v.next)
 
 -- name, indices, line end
-abbrev pub ended : List ℕ → Listed → Listed
-ended s (listed vs b) = on_place (line_end s b) none (λ c. listed vs c)
-ended s none = none
+unfoldable pub index_line : List ℕ → ℕ → Option Listed
+index_line s i = do
+  start ← word_at index= s i
+  indices ← indices_at most_indices s start
+  next ← line_end s indices.next
+  Some (record { list = indices.list; next = next })
 
-unfoldable pub index_line : List ℕ → ℕ → Listed
-index_line s i = on_place (word_at index= s i) none (λ a. ended s (indices_at most_indices s a))
-
-abbrev pub on_header {ℓ} : {A : Type ℓ} → Header → A → (DexHeader → ℕ → A) → A
-on_header (h.At d a) b g = g d a
-on_header h.Nothing b g = b
-
--- what a text says, whatever is lent: the record, the kind and the indices, or a line that isn't as it must be
-pub data Said : Type 0 where
-  said : DexHeader → ℕ → List ℕ → Said
-  malformed : Said
+-- what a text says, whatever is lent: the record, the kind and the indices
+pub record Said : Type 0 where
+  pub header : DexHeader
+  pub kind : ℕ
+  pub indices : List ℕ
 
 -- the lines must end the text
-abbrev pub to_the_end : List ℕ → DexHeader → ℕ → Listed → Said
-to_the_end s d kind (listed vs c) = cond (eqb c (length s)) (said d kind vs) malformed
-to_the_end s d kind none = malformed
+abbrev pub to_the_end : List ℕ → DexHeader → ℕ → Listed → Option Said
+to_the_end s d kind l = cond (eqb l.next (length s)) (Some (record { header = d; kind = kind; indices = l.list })) None
 
-unfoldable pub said_by : List ℕ → Said
-said_by s =
-    on_header (header_lines s) malformed (λ d a.
-    on_number (kind_line s a) malformed (λ kind b.
-    to_the_end s d kind (index_line s b)))
+unfoldable pub said_by : List ℕ → Option Said
+said_by s = do
+  lines ← header_lines s
+  kind ← kind_line s lines.next
+  indices ← index_line s kind.next
+  to_the_end s lines.header kind.value indices
 
 -- the outcome: the refusal's number, 0 for success, the record, the kind, and the indices, which the lent slice then holds with zeros after
 pub record Outcome : Type 0 where
@@ -136,10 +141,10 @@ abbrev pub refused : ℕ → Outcome
 refused n = record { number = n; header = no_header; kind = 0; indices = [] }
 
 -- 4 only once the whole request is read: more indices than lent words
-abbrev pub fitted : ℕ → Said → Outcome
-fitted room (said d kind vs) =
-    cond (leb (length vs) room) (record { number = 0; header = d; kind = kind; indices = vs }) (refused 4)
-fitted room malformed = refused 14
+abbrev pub fitted : ℕ → Option Said → Outcome
+fitted room (Some x) =
+    cond (leb (length x.indices) room) (record { number = 0; header = x.header; kind = x.kind; indices = x.indices }) (refused 4)
+fitted room None = refused 14
 
 -- 14, 4; room counts the lent words
 unfoldable pub request_of : List ℕ → ℕ → Outcome
@@ -147,24 +152,24 @@ request_of s room = fitted room (said_by s)
 
 -- ---- what an answer says: a refusal its number and else zeros
 
-abbrev pub request_number : Request → ℕ
-request_number (r.Asked d kind count) = 0
-request_number (r.Refused x) = refusal_number x
+abbrev pub request_number : Result Request Refusal → ℕ
+request_number (Ok q) = 0
+request_number (Err x) = refusal_number x
 
-abbrev pub request_header : Request → DexHeader
-request_header (r.Asked d kind count) = d
-request_header (r.Refused x) = no_header
+abbrev pub request_header : Result Request Refusal → DexHeader
+request_header (Ok q) = q.header
+request_header (Err x) = no_header
 
-abbrev pub request_kind : Request → ℕ
-request_kind (r.Asked d kind count) = kind
-request_kind (r.Refused x) = 0
+abbrev pub request_kind : Result Request Refusal → ℕ
+request_kind (Ok q) = q.kind
+request_kind (Err x) = 0
 
-abbrev pub request_count : Request → ℕ
-request_count (r.Asked d kind count) = count
-request_count (r.Refused x) = 0
+abbrev pub request_count : Result Request Refusal → ℕ
+request_count (Ok q) = q.count
+request_count (Err x) = 0
 
 -- answer and lent words are the outcome's
-pub record Says (o : Outcome) (q : Request) (before after : List ℕ) : Type 0 where
+pub record Says (o : Outcome) (q : Result Request Refusal) (before after : List ℕ) : Type 0 where
   pub number : request_number q ≡ o.number
   pub header : request_header q ≡ o.header
   pub kind : request_kind q ≡ o.kind

@@ -4,187 +4,149 @@
 mod lines;
 
 ghost use Rattle.std.specs.Prelude.{◌≡◌, length};
-ghost use Rattle.request.specs.Request.{header_lines, rest_lines, indices_at, index_line, most_indices, request_of, Says};
-ghost use Rattle.request.specs.Steps.{stored, view, RefusedBy};
+ghost use Rattle.request.specs.Request.{header_lines, rest_lines, indices_at, index_line, most_indices, said_by, request_of, Says};
+ghost use Rattle.request.specs.Steps.{stored, view, asked, asked_by, RefusedBy};
 
-use lines::Pair;
 use refusal::Refusal;
-use text_in::{Number, Place};
 use tinydex::{DexHeader, Table};
 
 // The record, and the place after its lines.
 #[derive(Clone, Copy)]
-enum Header {
-    At { header: DexHeader, next: usize },
-    Nothing,
+struct Header {
+    header: DexHeader,
+    next: usize,
 }
 
 // How many indices were read, and the place after them.
 #[derive(Clone, Copy)]
-enum Indices {
-    Read { count: usize, next: usize },
-    Nothing,
+struct Indices {
+    count: usize,
+    next: usize,
 }
 
 #[derive(Clone, Copy)]
-pub enum Request {
-    Asked {
-        header: DexHeader,
-        kind: u32,
-        count: usize,
-    },
-    Refused(Refusal),
+pub struct Request {
+    pub header: DexHeader,
+    pub kind: u32,
+    pub count: usize,
 }
 
 // The lines of the header record, from the text's start.
-fn header_lines(text: &[u8]) -> Header
+#[tactic(auto, unfolding(crate::specs::Request::header_lines))]
+fn header_lines(text: &[u8]) -> Option<Header>
     ensures { result ≡ header_lines text.now }
 {
-    let Pair::At {
-        table: strings,
-        next: a,
-    } = lines::pair_line(text, 0, b"strings=")
-    else {
-        return Header::Nothing;
-    };
-    let Pair::At {
-        table: types,
-        next: b,
-    } = lines::pair_line(text, a, b"types=")
-    else {
-        return Header::Nothing;
-    };
-    let Pair::At {
-        table: prototypes,
-        next: c,
-    } = lines::pair_line(text, b, b"prototypes=")
-    else {
-        return Header::Nothing;
-    };
-    rest_lines(text, c, strings, types, prototypes)
+    let strings = lines::pair_line(text, 0, b"strings=")?;
+    let types = lines::pair_line(text, strings.next, b"types=")?;
+    let prototypes = lines::pair_line(text, types.next, b"prototypes=")?;
+    rest_lines(
+        text,
+        prototypes.next,
+        strings.table,
+        types.table,
+        prototypes.table,
+    )
 }
 
 // The record's further lines, after those of the first three tables.
-fn rest_lines(text: &[u8], at: usize, strings: Table, types: Table, prototypes: Table) -> Header
+#[tactic(auto, unfolding(crate::specs::Request::rest_lines))]
+fn rest_lines(
+    text: &[u8],
+    at: usize,
+    strings: Table,
+    types: Table,
+    prototypes: Table,
+) -> Option<Header>
     ensures { result ≡ rest_lines strings types prototypes text.now at }
 {
-    let Pair::At {
-        table: fields,
-        next: a,
-    } = lines::pair_line(text, at, b"fields=")
-    else {
-        return Header::Nothing;
-    };
-    let Pair::At {
-        table: methods,
-        next: b,
-    } = lines::pair_line(text, a, b"methods=")
-    else {
-        return Header::Nothing;
-    };
-    let Pair::At {
-        table: classes,
-        next: c,
-    } = lines::pair_line(text, b, b"classes=")
-    else {
-        return Header::Nothing;
-    };
-    let Number::Value {
-        value: mapoff,
-        next: d,
-    } = lines::number_line(text, c, b"mapoff=")
-    else {
-        return Header::Nothing;
-    };
-    Header::At {
+    let fields = lines::pair_line(text, at, b"fields=")?;
+    let methods = lines::pair_line(text, fields.next, b"methods=")?;
+    let classes = lines::pair_line(text, methods.next, b"classes=")?;
+    let mapoff = lines::number_line(text, classes.next, b"mapoff=")?;
+    Some(Header {
         header: DexHeader {
             strings: strings,
             types: types,
             prototypes: prototypes,
-            fields: fields,
-            methods: methods,
-            classes: classes,
-            mapoff: mapoff,
+            fields: fields.table,
+            methods: methods.table,
+            classes: classes.table,
+            mapoff: mapoff.value,
         },
-        next: d,
-    }
+        next: mapoff.next,
+    })
 }
 
 // The indices at a place, at most 16, with commas between them.
-fn read_indices(text: &[u8], at: usize, wanted: &mut [u32]) -> Indices
+fn read_indices(text: &[u8], at: usize, wanted: &mut [u32]) -> Option<Indices>
     ensures { view result wanted.new ≡ stored 0 wanted.old (indices_at most_indices text.now at) }
 {
     let mut i = at;
-    let mut n: usize = 0;
-    while n < 16 {
-        let Number::Value { value: v, next: p } = text_in::read_number(text, i) else {
-            return Indices::Nothing;
+    for n in 0..16 {
+        let v = text_in::read_number(text, i)?;
+        words::put(wanted, n, v.value);
+        let Some(next) = text_in::read_word(text, v.next, b",") else {
+            return Some(Indices {
+                count: n + 1,
+                next: v.next,
+            });
         };
-        words::put(wanted, n, v);
-        n += 1;
-        let Place::At(q) = text_in::read_word(text, p, b",") else {
-            return Indices::Read { count: n, next: p };
-        };
-        i = q;
+        i = next;
     }
-    Indices::Nothing
+    None
 }
 
 // The line of the indices.
-fn index_line(text: &[u8], at: usize, wanted: &mut [u32]) -> Indices
+#[tactic(auto, unfolding(crate::specs::Request::index_line))]
+fn index_line(text: &[u8], at: usize, wanted: &mut [u32]) -> Option<Indices>
     ensures { view result wanted.new ≡ stored 0 wanted.old (index_line text.now at) }
 {
-    let Place::At(a) = text_in::read_word(text, at, b"index=") else {
-        return Indices::Nothing;
-    };
-    let Indices::Read { count, next: b } = read_indices(text, a, wanted) else {
-        return Indices::Nothing;
-    };
-    let Place::At(c) = text_in::read_line_end(text, b) else {
-        return Indices::Nothing;
-    };
-    Indices::Read {
-        count: count,
-        next: c,
+    let start = text_in::read_word(text, at, b"index=")?;
+    let indices = read_indices(text, start, wanted)?;
+    let next = text_in::read_line_end(text, indices.next)?;
+    Some(Indices {
+        count: indices.count,
+        next: next,
+    })
+}
+
+// What the text says, with the indices stored as far as there are words. Nothing stands after the last line.
+#[tactic(auto, unfolding(crate::specs::Request::said_by, crate::specs::Steps::asked, crate::specs::Steps::asked_by))]
+fn read_lines(text: &[u8], wanted: &mut [u32]) -> Option<Request>
+    ensures { asked result wanted.new ≡ asked_by wanted.old (said_by text.now) }
+{
+    let lines = header_lines(text)?;
+    let kind = lines::kind_line(text, lines.next)?;
+    let indices = index_line(text, kind.next, wanted)?;
+    if indices.next != text.len() {
+        return None;
     }
+    Some(Request {
+        header: lines.header,
+        kind: kind.value,
+        count: indices.count,
+    })
 }
 
 // A refusal, with every lent word zero.
-fn refuse(why: Refusal, wanted: &mut [u32]) -> Request
+fn refuse(why: Refusal, wanted: &mut [u32]) -> Result<Request, Refusal>
     ensures { RefusedBy why result wanted.old wanted.new }
 {
     words::fill(wanted, 0);
-    Request::Refused(why)
+    Err(why)
 }
 
 // The request that a text is. A bad line is said first, and words that are too few only once all indices are read. On a refusal all
 // lent words are zero.
-pub fn read_request(text: &[u8], wanted: &mut [u32]) -> Request
+pub fn read_request(text: &[u8], wanted: &mut [u32]) -> Result<Request, Refusal>
     ensures { Says (request_of text.now (length wanted.old)) result wanted.old wanted.new }
 {
     words::clear(wanted);
-    let Header::At { header, next: a } = header_lines(text) else {
+    let Some(request) = read_lines(text, wanted) else {
         return refuse(Refusal::BadRequest, wanted);
     };
-    let Number::Value {
-        value: kind,
-        next: b,
-    } = lines::kind_line(text, a)
-    else {
-        return refuse(Refusal::BadRequest, wanted);
-    };
-    let Indices::Read { count, next: c } = index_line(text, b, wanted) else {
-        return refuse(Refusal::BadRequest, wanted);
-    };
-    if c != text.len() {
-        return refuse(Refusal::BadRequest, wanted);
-    }
-    if wanted.len() < count {
+    if wanted.len() < request.count {
         return refuse(Refusal::LentTooShort, wanted);
     }
-    Request::Asked {
-        header: header,
-        kind: kind,
-        count: count,
-    }
+    Ok(request)
 }

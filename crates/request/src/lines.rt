@@ -1,95 +1,86 @@
 // The lines of a request of the program `refs`, read out of a slice of bytes: a name, then numbers or a kind, then the line's end.
+// Kept, point 1: the kind goes on as a number to `find`, which refuses 2 one that names none.
 ghost use Rattle.std.specs.Prelude.{◌≡◌};
-ghost use Rattle.request.specs.Lines.{ended, pair_line, number_line, kind_at, kind_line};
+ghost use Rattle.request.specs.Lines.{ended, pair_line, number_line, kind_named, kind_at, kind_line};
 
-use text_in::{Number, Place};
+use text_in::Number;
 use tinydex::Table;
 
 // The offset and the size of a table, and the place after their line.
 #[derive(Clone, Copy)]
-pub(crate) enum Pair {
-    At { table: Table, next: usize },
-    Nothing,
+pub(crate) struct Pair {
+    pub(crate) table: Table,
+    pub(crate) next: usize,
 }
 
 // A number that was read, and its line's end after it.
-fn ended(text: &[u8], read: Number) -> Number
+#[tactic(auto, unfolding(crate::specs::Lines::ended))]
+fn ended(text: &[u8], read: Number) -> Option<Number>
     ensures { result ≡ ended text.now read }
 {
-    let Number::Value { value: v, next: b } = read else {
-        return Number::Nothing;
-    };
-    let Place::At(c) = text_in::read_line_end(text, b) else {
-        return Number::Nothing;
-    };
-    Number::Value { value: v, next: c }
+    let next = text_in::read_line_end(text, read.next)?;
+    Some(Number {
+        value: read.value,
+        next: next,
+    })
 }
 
 // A line of a name and a number.
-pub(crate) fn number_line(text: &[u8], at: usize, name: &[u8]) -> Number
+#[tactic(auto, unfolding(crate::specs::Lines::number_line))]
+pub(crate) fn number_line(text: &[u8], at: usize, name: &[u8]) -> Option<Number>
     ensures { result ≡ number_line name.now text.now at }
 {
-    let Place::At(a) = text_in::read_word(text, at, name) else {
-        return Number::Nothing;
-    };
-    ended(text, text_in::read_number(text, a))
+    let start = text_in::read_word(text, at, name)?;
+    let number = text_in::read_number(text, start)?;
+    ended(text, number)
 }
 
 // A line of a name, a number, a comma and a number.
-pub(crate) fn pair_line(text: &[u8], at: usize, name: &[u8]) -> Pair
+#[tactic(auto, unfolding(crate::specs::Lines::pair_line))]
+pub(crate) fn pair_line(text: &[u8], at: usize, name: &[u8]) -> Option<Pair>
     ensures { result ≡ pair_line name.now text.now at }
 {
-    let Place::At(a) = text_in::read_word(text, at, name) else {
-        return Pair::Nothing;
-    };
-    let Number::Value {
-        value: off,
-        next: b,
-    } = text_in::read_number(text, a)
-    else {
-        return Pair::Nothing;
-    };
-    let Number::Value {
-        value: size,
-        next: c,
-    } = number_line(text, b, b",")
-    else {
-        return Pair::Nothing;
-    };
-    Pair::At {
+    let start = text_in::read_word(text, at, name)?;
+    let off = text_in::read_number(text, start)?;
+    let size = number_line(text, off.next, b",")?;
+    Some(Pair {
         table: Table {
-            off: off,
-            size: size,
+            off: off.value,
+            size: size.value,
         },
-        next: c,
-    }
+        next: size.next,
+    })
+}
+
+// A kind's number, where its name stands.
+#[tactic(auto, unfolding(crate::specs::Lines::kind_named))]
+fn kind_named(text: &[u8], at: usize, name: &[u8], kind: u32) -> Option<Number>
+    ensures { result ≡ kind_named name.now kind text.now at }
+{
+    let next = text_in::read_word(text, at, name)?;
+    Some(Number {
+        value: kind,
+        next: next,
+    })
 }
 
 // A kind's number, by its name.
-fn read_kind(text: &[u8], at: usize) -> Number
+#[tactic(auto, unfolding(crate::specs::Lines::kind_at))]
+fn read_kind(text: &[u8], at: usize) -> Option<Number>
     ensures { result ≡ kind_at text.now at }
 {
-    if let Place::At(a) = text_in::read_word(text, at, b"string") {
-        return Number::Value { value: 1, next: a };
-    }
-    if let Place::At(b) = text_in::read_word(text, at, b"type") {
-        return Number::Value { value: 2, next: b };
-    }
-    if let Place::At(c) = text_in::read_word(text, at, b"field") {
-        return Number::Value { value: 3, next: c };
-    }
-    if let Place::At(d) = text_in::read_word(text, at, b"method") {
-        return Number::Value { value: 4, next: d };
-    }
-    Number::Nothing
+    kind_named(text, at, b"string", 1)
+        .or(kind_named(text, at, b"type", 2))
+        .or(kind_named(text, at, b"field", 3))
+        .or(kind_named(text, at, b"method", 4))
 }
 
 // The line of the kind.
-pub(crate) fn kind_line(text: &[u8], at: usize) -> Number
+#[tactic(auto, unfolding(crate::specs::Lines::kind_line))]
+pub(crate) fn kind_line(text: &[u8], at: usize) -> Option<Number>
     ensures { result ≡ kind_line text.now at }
 {
-    let Place::At(a) = text_in::read_word(text, at, b"kind=") else {
-        return Number::Nothing;
-    };
-    ended(text, read_kind(text, a))
+    let start = text_in::read_word(text, at, b"kind=")?;
+    let kind = read_kind(text, start)?;
+    ended(text, kind)
 }

@@ -1,19 +1,16 @@
 // The operations as C calls them (include/ringlinden.h): each under a plain name, over lent slices. A function returns the refusal's
 // number, 0 for success; counts and places go through pointers, and are 0 on a refusal. The crate `ringlinden_c` exports them.
+// Kept, points 1 and 5: the parameters are those of the C interface (include/ringlinden.h).
 #![tactic(auto)]
 
 ghost use Rattle.std.specs.Prelude.{◌≡◌, [], ◌∷◌, ◌++◌, length};
 ghost use Rattle.dalvik.specs.Numbers.{le32};
 ghost use Rattle.refusal.specs.Outcomes.{Gives as GivesWords};
-ghost use Rattle.refusal.specs.declared.Answer.{Answer as AnAnswer};
 ghost use Rattle.groups.specs.Built.{group_words, Gives as GivesGroups};
 ghost use Rattle.type_locator.specs.Built.{outcome as types_outcome};
 ghost use Rattle.method_locator.specs.Built.{method_words, outcome as methods_outcome, Gives as GivesMethods};
-ghost use Rattle.method_locator.specs.declared.Built.{Built as MethodGroups};
 ghost use Rattle.string_locator.specs.Map.{Built as BuiltMap};
-ghost use Rattle.string_locator.specs.declared.StringMap.{StringMap as AMap};
 ghost use Rattle.string_data.specs.Text.{string_text, says as text_says};
-ghost use Rattle.string_data.specs.declared.StringText.{StringText as AText};
 ghost use Rattle.word_set.specs.Found.{Found as FoundWords};
 ghost use Rattle.string_search.specs.Search.{area, Owns, search_fault};
 ghost use Rattle.type_search.specs.Types.{type_words, Searched as TypesSearched};
@@ -23,7 +20,6 @@ ghost use Rattle.name_filter.specs.Names.{Named};
 ghost use Rattle.code_table.specs.Build.{build_out};
 ghost use Rattle.code_table.specs.RegionEnd.{RegionInside};
 ghost use Rattle.code_table.specs.Answer.{built_region, table_words, room_of, GivesBuild};
-ghost use Rattle.code_table.specs.declared.Built.{Built as CodeTable};
 ghost use Rattle.code_item_scan.specs.Scan.{asked, scan_out};
 ghost use Rattle.code_item_scan.specs.Answers.{hit_words, hit_room_of, Gives as GivesScan};
 ghost use Rattle.insn_locator.specs.Locate.{locate_out};
@@ -35,7 +31,6 @@ ghost use Rattle.findrefs.specs.Find.{lengths_of, find_out};
 ghost use Rattle.findrefs.specs.Gives.{reply_of, GivesFind};
 ghost use Rattle.findrefs.specs.Region.{NeverOutside};
 ghost use Rattle.findrefs.specs.Alone.{StandAlone};
-ghost use Rattle.findrefs.specs.declared.Found.{Found as AFound};
 ghost use Rattle.c_answers.specs.Header.{header_of};
 ghost use Rattle.c_answers.specs.Told.{Told, of_answer, of_method_groups, of_string_map, of_string_text, of_code_table, of_found};
 ghost use Rattle.c_answers.specs.Group.{GroupAt};
@@ -53,7 +48,7 @@ pub fn ringlinden_type_groups(
     ensures gives { let before = group_words str_offsets.old type_idxs.old in
         let after = group_words str_offsets.new type_idxs.new in
         let outcome = types_outcome file.now (header_of header.now) before in
-        Told of_answer (λ (a : AnAnswer). GivesGroups outcome a before after) (result ∷ count.new ∷ []) }
+        Told of_answer (λ a. GivesGroups outcome a before after) (result ∷ count.new ∷ []) }
 {
     let answer = type_locator::build_map(
         file,
@@ -81,7 +76,7 @@ pub fn ringlinden_method_groups(
         (group_words name_offsets.new name_mids.new) in
         let outcome = methods_outcome file.now (header_of header.now) before in
         let told = result ∷ clz_count.new ∷ name_count.new ∷ [] in
-        Told of_method_groups (λ (a : MethodGroups). GivesMethods outcome a before after) told }
+        Told of_method_groups (λ a. GivesMethods outcome a before after) told }
 {
     let answer = method_locator::build_map(
         file,
@@ -123,8 +118,8 @@ pub fn ringlinden_string_map(
     end: &mut usize,
 ) -> u32
     ensures gives { let strings = (header_of header.now).strings in
-        let Right : AMap → Type 0 = λ a. BuiltMap file.now strings.off strings.size a keys.old keys.new in
-        Told of_string_map Right (result ∷ count.new ∷ start.new ∷ end.new ∷ []) }
+        Told of_string_map (λ a. BuiltMap file.now strings.off strings.size a keys.old keys.new)
+        (result ∷ count.new ∷ start.new ∷ end.new ∷ []) }
 {
     let answer = string_locator::build_map(file, c_answers::header_of(header), keys);
     c_answers::tell_string_map(answer, count, start, end)
@@ -137,8 +132,8 @@ pub fn ringlinden_string_bytes(
     start: &mut usize,
     count: &mut usize,
 ) -> u32
-    ensures gives { let Right : AText → Type 0 = λ a. text_says a ≡ string_text file.now offset in
-        Told of_string_text Right (result ∷ start.new ∷ count.new ∷ []) }
+    ensures gives { Told of_string_text (λ a. text_says a ≡ string_text file.now offset)
+        (result ∷ start.new ∷ count.new ∷ []) }
 {
     let answer = string_data::string_data(file, offset);
     c_answers::tell_string_text(answer, start, count)
@@ -156,7 +151,7 @@ pub fn ringlinden_string_search(
 ) -> u32
     ensures gives { let searched = area file.now keys.now start end in
         let fault = search_fault (length file.now) 1 (length query.now) keys.now in
-        Told of_answer (λ (a : AnAnswer). FoundWords (Owns searched query.now) fault a out.old out.new)
+        Told of_answer (λ a. FoundWords (Owns searched query.now) fault a out.old out.new)
         (result ∷ count.new ∷ []) }
 {
     let answer = string_search::locate(file, keys, start, end, query, out);
@@ -180,7 +175,7 @@ pub fn ringlinden_type_search(
         let table = group_words str_offsets.now type_idxs.now in
         let before = type_words strings.old out.old in
         let after = type_words strings.new out.new in
-        Told of_answer (λ (a : AnAnswer). TypesSearched searched query.now table a before after) (result ∷ count.new ∷ []) }
+        Told of_answer (λ a. TypesSearched searched query.now table a before after) (result ∷ count.new ∷ []) }
 {
     let answer = type_search::locate(
         file,
@@ -217,7 +212,7 @@ pub fn ringlinden_method_search(
         let asked = search_for searched (class_and_name class.now name.now) table (header_of header.now).methods in
         let before = search_words strings.old types.old out.old in
         let after = search_words strings.new types.new out.new in
-        Told of_answer (λ (a : AnAnswer). MethodsSearched asked a before after) (result ∷ count.new ∷ []) }
+        Told of_answer (λ a. MethodsSearched asked a before after) (result ∷ count.new ∷ []) }
 {
     let answer = method_search::locate(
         file,
@@ -247,7 +242,7 @@ pub fn ringlinden_name_filter(
     ensures gives { let s = file.now in
         let Kept = Named s (le32 s 0x3c) query.now given.now in
         let fault = filter_fault s query.now given.now in
-        Told of_answer (λ (a : AnAnswer). FoundWords Kept fault a out.old out.new) (result ∷ count.new ∷ []) }
+        Told of_answer (λ a. FoundWords Kept fault a out.old out.new) (result ∷ count.new ∷ []) }
 {
     let answer = name_filter::locate_name_indices(file, given, query, out);
     c_answers::tell(answer, count)
@@ -274,11 +269,11 @@ pub fn ringlinden_code_table(
         let outcome = build_out file.now (header_of header.now) (room_of before) in
         let region = region_start.new ∷ region_end.new ∷ [] in
         let counts = codes.new ∷ slot_count.new ∷ share_count.new ∷ [] in
-        Told of_code_table (λ (a : CodeTable). GivesBuild outcome a before after) (result ∷ region ++ counts) }
+        Told of_code_table (λ a. GivesBuild outcome a before after) (result ∷ region ++ counts) }
     ensures region_inside { let region = region_start.new ∷ region_end.new ∷ [] in
         let counts = codes.new ∷ slot_count.new ∷ share_count.new ∷ [] in
         let n = length file.now in
-        Told of_code_table (λ (a : CodeTable). RegionInside n (built_region a).start (built_region a).end) (result ∷ region ++ counts) }
+        Told of_code_table (λ a. RegionInside n (built_region a).start (built_region a).end) (result ∷ region ++ counts) }
 {
     let answer = code_table::parse(
         file,
@@ -312,7 +307,7 @@ pub fn ringlinden_scan(
     ensures gives { let before = hit_words offs.old marks.old in
         let after = hit_words offs.new marks.new in
         let outcome = scan_out file.now (asked kind wanted.now start end) (hit_room_of before) in
-        Told of_answer (λ (a : AnAnswer). GivesScan outcome a before after) (result ∷ count.new ∷ []) }
+        Told of_answer (λ a. GivesScan outcome a before after) (result ∷ count.new ∷ []) }
 {
     let answer = code_item_scan::scan(file, start, end, kind, wanted, offs, marks);
     c_answers::tell(answer, count)
@@ -334,11 +329,11 @@ pub fn ringlinden_locate(
         let before = locate_words further.old answers.old in
         let after = locate_words further.new answers.new in
         let outcome = locate_out file.now T entries.now (length before.answers) (length before.further) in
-        Told of_answer (λ (a : AnAnswer). Located outcome a before after) (result ∷ count.new ∷ []) }
+        Told of_answer (λ a. Located outcome a before after) (result ∷ count.new ∷ []) }
     ensures alone { let T = tables base slots.now starts.now shares.now in
         let before = locate_words further.old answers.old in
         let after = locate_words further.new answers.new in
-        Told of_answer (λ (a : AnAnswer). StandsAlone file.now T entries.now a before after)
+        Told of_answer (λ a. StandsAlone file.now T entries.now a before after)
         (result ∷ count.new ∷ []) }
 {
     let answer = insn_locator::locate(file, base, slots, starts, shares, entries, further, answers);
@@ -353,7 +348,7 @@ pub fn ringlinden_list_slot(
     count: &mut usize,
 ) -> u32
     ensures gives { let outcome = list_out shares.now slot (length methods.old) in
-        Told of_answer (λ (a : AnAnswer). GivesWords outcome a methods.old methods.new)
+        Told of_answer (λ a. GivesWords outcome a methods.old methods.new)
         (result ∷ count.new ∷ []) }
 {
     let listed = slot_listing::list_slot(shares, slot, methods);
@@ -386,7 +381,7 @@ pub fn ringlinden_find(
         (locate_words further.new answers.new) in
         let outcome = find_out file.now (header_of header.now) kind wanted.now (lengths_of before) in
         let told = result ∷ region_start.new ∷ region_end.new ∷ hits.new ∷ [] in
-        Told of_found (λ (a : AFound). GivesFind outcome a before after) told }
+        Told of_found (λ a. GivesFind outcome a before after) told }
     ensures demand_3 { let table = table_words starts.old triples.old slots.old shares.old in
         let left = table_words starts.new triples.new slots.new shares.new in
         let before = find_words table (hit_words offs.old marks.old)
@@ -395,15 +390,15 @@ pub fn ringlinden_find(
         (locate_words further.new answers.new) in
         let call = call_of file.now (header_of header.now) kind wanted.now in
         let told = result ∷ region_start.new ∷ region_end.new ∷ hits.new ∷ [] in
-        Told of_found (λ (a : AFound). Demand3 call before (reply_of a) after) told }
+        Told of_found (λ a. Demand3 call before (reply_of a) after) told }
     ensures never_outside { let told = result ∷ region_start.new ∷ region_end.new ∷ hits.new ∷ [] in
-        Told of_found (λ (a : AFound). NeverOutside file.now a) told }
+        Told of_found (λ a. NeverOutside file.now a) told }
     ensures alone { let left = table_words starts.new triples.new slots.new shares.new in
         let after = find_words left (hit_words offs.new marks.new)
         (locate_words further.new answers.new) in
         let call = call_of file.now (header_of header.now) kind wanted.now in
         let told = result ∷ region_start.new ∷ region_end.new ∷ hits.new ∷ [] in
-        Told of_found (λ (a : AFound). StandAlone call a after) told }
+        Told of_found (λ a. StandAlone call a after) told }
 {
     let answer = findrefs::find(
         file,

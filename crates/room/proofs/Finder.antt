@@ -1,13 +1,13 @@
 -- More room never makes the finder refuse. Its build and its scan come to the same; locate is given the same start words, and slots and
 -- shares with more zeros after them: the slots read alike, and a share that was inside is inside.
 -- Assumes nothing.
+use Rattle.std.specs.Prelude.{Option, None, Some}
 use Prim.Native.Nat.{ℕ, ◌-◌, ◌+◌, ◌*◌, ◌/◌, ◌≤◌}
 use native.Mathlib.Omega.{arith}
 use mathlib.Core.Path.{◌≡◌, refl, sym, ap, ◌∙◌}
 use mathlib.Core.Logic.{⊎_elim}
 use mathlib.Core.Bool.{true, false, ◌&&◌}
 use mathlib.Core.List.{List, [], ◌∷◌}
-use mathlib.Core.Option.{Option, none, some}
 use lib.ListN.{length, get_or, replicate, length-append, length-replicate}
 use lib.Dec.{ltb, leb, eqb}
 use borrow.Author.Tests.{eqb-true, eq-eqb, leb-true, le-leb}
@@ -33,23 +33,23 @@ use Rattle.room.proofs.Located.{scan_more, locate_more}
 
 -- what o has, o' has too
 abbrev Kept : {A : Type 0} → Option A → Option A → Type 0
-Kept {A} o o' = (x : A) → o ≡ some x → o' ≡ some x
+Kept {A} o o' = (x : A) → o ≡ Some x → o' ≡ Some x
 
-none_kept : {A : Type 0} (o' : Option A) → Kept none o'
+none_kept : {A : Type 0} (o' : Option A) → Kept None o'
 none_kept o' x e = absurd (let z : ◌≡◌ {A = ℕ} 0 1 = cc in omega arith)
 
 same_kept : {A : Type 0} (o o' : Option A) → o ≡ o' → Kept o o'
 same_kept o o' q x e = sym q ∙ e
 
 cons_kept : (a : ℕ) (o o' : Option (List ℕ)) → Kept o o' → Kept (cons_to a o) (cons_to a o')
-cons_kept a none o' k = none_kept (cons_to a o')
-cons_kept a (some l) o' k = same_kept (some (a ∷ l)) (cons_to a o') (ap (cons_to a) (sym (k l refl)))
+cons_kept a None o' k = none_kept (cons_to a o')
+cons_kept a (Some l) o' k = same_kept (Some (a ∷ l)) (cons_to a o') (ap (cons_to a) (sym (k l refl)))
 
 then_kept : (o o' : Option Answered) (f f' : List ℕ → Option (List ℕ)) → Kept o o' → ((l : List ℕ) → Kept (f l) (f' l))
     → Kept (and_then o f) (and_then o' f')
-then_kept none o' f f' k g = none_kept (and_then o' f')
-then_kept (some r) o' f f' k g =
-    let q : o' ≡ some r = k r refl in
+then_kept None o' f f' k g = none_kept (and_then o' f')
+then_kept (Some r) o' f f' k g =
+    let q : o' ≡ Some r = k r refl in
     λ x e. ap (λ (o : Option Answered). and_then o f') q ∙ cons_kept r.answer (f r.last) (f' r.last) (g r.last) x e
 
 -- ---- locate over tables that read alike, with shares that are no fewer
@@ -74,15 +74,15 @@ module _ (s : List ℕ) (base : ℕ) (starts : List ℕ) {xs xs' ws ws' : List �
       ⊎_elim
       (λ (b : leb (3 * (v - shared) + 3) (length ws) ≡ true).
       rw (a, b, le-leb (3 * (v - shared) + 3) (length ws') (omega (arith, alike.longer, leb-true (3 * (v - shared) + 3) (length ws) b)))
-      (same_kept (some (share_at ws (v - shared) 0)) (some (share_at ws' (v - shared) 0)) (ap some (alike.shares (3 * (v - shared) + 0)))))
+      (same_kept (Some (share_at ws (v - shared) 0)) (Some (share_at ws' (v - shared) 0)) (ap Some (alike.shares (3 * (v - shared) + 0)))))
       (λ (b : leb (3 * (v - shared) + 3) (length ws) ≡ false). rw (a, b) (none_kept _))
       (case (leb (3 * (v - shared) + 3) (length ws))))
       (case (ltb v shared))
 
   by_kept : (last : List ℕ) (v t : ℕ) (o o' : Option ℕ) → Kept o o' → Kept (answered_by s starts last v t o) (answered_by s starts last v t o')
-  by_kept last v t none o' k = none_kept (answered_by s starts last v t o')
-  by_kept last v t (some m) o' k =
-      same_kept (answered_by s starts last v t (some m)) (answered_by s starts last v t o') (ap (answered_by s starts last v t) (sym (k m refl)))
+  by_kept last v t None o' k = none_kept (answered_by s starts last v t o')
+  by_kept last v t (Some m) o' k =
+      same_kept (answered_by s starts last v t (Some m)) (answered_by s starts last v t o') (ap (answered_by s starts last v t) (sym (k m refl)))
 
   answered_kept : (last : List ℕ) (t v : ℕ) → Kept (answered s T last t v) (answered s T' last t v)
   answered_kept last t v =
@@ -105,8 +105,8 @@ module _ (s : List ℕ) (base : ℕ) (starts : List ℕ) {xs xs' ws ws' : List �
       (answered_kept last t (slot_at base xs' t)) (λ l. from_kept ts l))
 
   answers_kept : (o o' : Option (List ℕ)) → Kept o o' → (answers_from o).number ≡ 0 → answers_from o' ≡ answers_from o
-  answers_kept none o' k e = absurd (omega arith)
-  answers_kept (some l) o' k e = ap answers_from (k l refl)
+  answers_kept None o' k e = absurd (omega arith)
+  answers_kept (Some l) o' k e = ap answers_from (k l refl)
 
   tables_more : (entries : List ℕ) (answers further : ℕ) → (locate_out s T entries answers further).number ≡ 0
       → locate_out s T' entries answers further ≡ locate_out s T entries answers further

@@ -1,6 +1,7 @@
 -- Room for groups and for the string map. A pool of that many keys has one offset more, no more ids are grouped than there are, and the map's
 -- test of room asks for a key a string before it looks at any.
 -- Assumes nothing.
+use Rattle.std.specs.Prelude.{Option, Some, None}
 use Prim.Native.Nat.{ℕ, suc, ◌+◌, ◌≤◌}
 use native.Mathlib.Omega.{arith}
 use mathlib.Core.Path.{◌≡◌, ap₂}
@@ -22,8 +23,6 @@ use Rattle.groups.proofs.Lists.{length_tabulate}
 use Rattle.groups.proofs.Groups.{few}
 use Rattle.method_locator.specs.Built as m
 use Rattle.string_data.specs.Text.{first_zero, on_zero}
-use Rattle.string_data.specs.declared.Zero.{Zero}
-use Rattle.string_data.specs.declared.Zero.TheVariants as z
 use Rattle.string_locator.proofs.LengthBytes.{length_any}
 use Rattle.string_locator.specs.Map.{MapOutcome, none, area, greatest, text_area, strings_area, map_outcome}
 use Rattle.room.specs.Laws.{LongerGroups}
@@ -105,9 +104,9 @@ methods_enough s h before a b c d e =
 abbrev Not : MapOutcome → Type 0
 Not o = o.number ≢ 4
 
-at_zero : (r : Zero) (f : ℕ → MapOutcome) → ((k : ℕ) → Not (f k)) → Not (on_zero r (none 5) f)
-at_zero (z.After n) f g = g n
-at_zero z.Nothing f g = λ e. omega arith
+at_zero : (r : Option ℕ) (f : ℕ → MapOutcome) → ((k : ℕ) → Not (f k)) → Not (on_zero r (none 5) f)
+at_zero (Some n) f g = g n
+at_zero None f g = λ e. omega arith
 
 area_five : (s : List ℕ) (table n : ℕ) → Not (strings_area s table n)
 unfolding strings_area text_area

@@ -1,13 +1,13 @@
 -- Room for scan, locate and the listing of a slot. A start is a hit once at most; and a share's earlier shares fall, so that its list has one
 -- method more than shares are passed.
 -- Assumes nothing.
+use Rattle.std.specs.Prelude.{Option, None, Some}
 use Prim.Native.Nat.{ℕ, zero, suc, ◌+◌, ◌-◌, ◌*◌, ◌/◌, ◌≤◌, ◌<◌}
 use native.Mathlib.Omega.{arith}
 use mathlib.Core.Path.{◌≡◌, refl}
 use mathlib.Core.Logic.{◌≢◌, ⊎_elim}
 use mathlib.Core.Bool.{true, false, ◌&&◌}
 use mathlib.Core.List.{List, [], ◌∷◌}
-use mathlib.Core.Option.{Option, none, some}
 use lib.ListN.{length, length-append}
 use lib.Dec.{ltb, leb, eqb}
 use borrow.Author.Tests.{le-leb, leb-true, ltb-true}
@@ -30,8 +30,8 @@ use Rattle.room.proofs.Branches.{same_else, same_then, room_then, more_leb, more
 module _ (s : List ℕ) (A : Asked) (room : HitRoom) where
   scanned_more : (room' : HitRoom) → LongerHits room room' → (k : Option Kind) → (scanned_as s A room k).number ≡ 0
       → scanned_as s A room' k ≡ scanned_as s A room k
-  scanned_more room' M none = λ e. refl
-  scanned_more room' M (some kind) =
+  scanned_more room' M None = λ e. refl
+  scanned_more room' M (Some kind) =
       let n : Scan → ℕ = λ o. o.number in
       let k : ℕ = length (hits_of s kind A.wanted A.from A.to) in
       same_then n (leb A.from A.to && leb A.to (length s)) _ _ (no_scan 12)
@@ -44,8 +44,8 @@ module _ (s : List ℕ) (A : Asked) (room : HitRoom) where
   scanned_enough : most_entries A.kind (length s) ≤ room.offs → most_entries A.kind (length s) ≤ room.marks → (k : Option Kind)
       → kind_of A.kind ≡ k
       → (scanned_as s A room k).number ≢ 4
-  scanned_enough a b none q = λ z. omega arith
-  scanned_enough a b (some kind) q =
+  scanned_enough a b None q = λ z. omega arith
+  scanned_enough a b (Some kind) q =
       let hits : List Hit = hits_of s kind A.wanted A.from A.to in
       cond_elim (λ (o : Scan). o.number ≢ 4) (leb A.from A.to && leb A.to (length s)) (scanned room hits) (no_scan 12)
       (λ i.
@@ -72,8 +72,8 @@ scan_enough s A room a b =
 
 -- ---- locate
 answers_not : (r : Option (List ℕ)) → (answers_from r).number ≢ 4
-answers_not none e = omega arith
-answers_not (some l) e = omega arith
+answers_not None e = omega arith
+answers_not (Some l) e = omega arith
 
 pub locate_more : (s : List ℕ) (T : Tables) (entries : List ℕ) {answers further answers' further' : ℕ} → answers ≤ answers' → further ≤ further'
     → (locate_out s T entries answers further).number ≡ 0 → locate_out s T entries answers' further' ≡ locate_out s T entries answers further
@@ -101,23 +101,23 @@ unfolding list_out
 list_more shares slot room room' a = by (listed shares slot)
   where
     by : (r : Option (List ℕ)) → (listed_from room r).number ≡ 0 → listed_from room' r ≡ listed_from room r
-    by none e = refl
-    by (some l) e =
+    by None e = refl
+    by (Some l) e =
         room_then (λ (o : Outcome). o.number) (leb (length l) room) (leb (length l) room') (success l) (success l) (refused 4) (λ z. omega arith)
         (more_leb (length l) room room' a) (λ z. refl) e
 
 -- a list of at most n methods
 abbrev Most : ℕ → Option (List ℕ) → Type 0
-Most n none = Unit {0}
-Most n (some l) = length l ≤ n
+Most n None = Unit {0}
+Most n (Some l) = length l ≤ n
 
 snoc_most : (n m : ℕ) (r : Option (List ℕ)) → Most n r → Most (suc n) (snoc_to m r)
-snoc_most n m none h = tt
-snoc_most n m (some l) h = omega (arith, length-append l (m ∷ []))
+snoc_most n m None h = tt
+snoc_most n m (Some l) h = omega (arith, length-append l (m ∷ []))
 
 wider : (n m : ℕ) (r : Option (List ℕ)) → n ≤ m → Most n r → Most m r
-wider n m none h k = tt
-wider n m (some l) h k = omega arith
+wider n m None h k = tt
+wider n m (Some l) h k = omega arith
 
 -- share k is inside, and its list has no more than k + 2 methods
 chain_most : (n : ℕ) (ws : List ℕ) (k : ℕ) → Most (k + 2) (chain n ws k)
@@ -125,9 +125,9 @@ unfolding chain
 chain_most zero ws k = tt
 chain_most (suc n) ws k =
     let e : ℕ = share_at ws k 2 in
-    cond_elim (Most (k + 2)) (leb (3 * k + 3) (length ws)) _ none
-    (λ _. cond_elim (Most (k + 2)) (eqb e 0) (some (share_at ws k 0 ∷ share_at ws k 1 ∷ [])) _ (λ _. omega arith)
-    (λ _. cond_elim (Most (k + 2)) (ltb (e - 1) k) (snoc_to (share_at ws k 1) (chain n ws (e - 1))) none
+    cond_elim (Most (k + 2)) (leb (3 * k + 3) (length ws)) _ None
+    (λ _. cond_elim (Most (k + 2)) (eqb e 0) (Some (share_at ws k 0 ∷ share_at ws k 1 ∷ [])) _ (λ _. omega arith)
+    (λ _. cond_elim (Most (k + 2)) (ltb (e - 1) k) (snoc_to (share_at ws k 1) (chain n ws (e - 1))) None
     (λ i.
     let j : e - 1 < k = ltb-true (e - 1) k i in
     wider (suc (e - 1 + 2)) (k + 2) (snoc_to (share_at ws k 1) (chain n ws (e - 1))) (omega arith)
@@ -135,7 +135,7 @@ chain_most (suc n) ws k =
     (λ _. tt)))
     (λ _. tt)
 
-chain_outside : (n : ℕ) (ws : List ℕ) (k : ℕ) → leb (3 * k + 3) (length ws) ≡ false → chain n ws k ≡ none
+chain_outside : (n : ℕ) (ws : List ℕ) (k : ℕ) → leb (3 * k + 3) (length ws) ≡ false → chain n ws k ≡ None
 unfolding chain
 chain_outside zero ws k e = refl
 chain_outside (suc n) ws k e = rw e
@@ -151,8 +151,8 @@ chain_inside n ws k =
 listed_most : (ws : List ℕ) (v : ℕ) → Most (length ws / 3 + 1) (listed ws v)
 unfolding listed
 listed_most ws v =
-    cond_elim (Most (length ws / 3 + 1)) (eqb v 0) (some []) _ (λ _. omega arith)
-    (λ _. cond_elim (Most (length ws / 3 + 1)) (ltb v shared) (some ((v - 1) ∷ [])) (chain (suc (v - shared)) ws (v - shared)) (λ _. omega arith)
+    cond_elim (Most (length ws / 3 + 1)) (eqb v 0) (Some []) _ (λ _. omega arith)
+    (λ _. cond_elim (Most (length ws / 3 + 1)) (ltb v shared) (Some ((v - 1) ∷ [])) (chain (suc (v - shared)) ws (v - shared)) (λ _. omega arith)
     (λ _. chain_inside (suc (v - shared)) ws (v - shared)))
 
 pub list_enough : (shares : List ℕ) (slot room : ℕ) → length shares / 3 + 1 ≤ room → (list_out shares slot room).number ≢ 4
@@ -160,5 +160,5 @@ unfolding list_out
 list_enough shares slot room a = by (listed shares slot) (wider (length shares / 3 + 1) room (listed shares slot) a (listed_most shares slot))
   where
     by : (r : Option (List ℕ)) → Most room r → (listed_from room r).number ≢ 4
-    by none h = λ z. omega arith
-    by (some l) h = rw (le-leb (length l) room h) (λ z. omega arith)
+    by None h = λ z. omega arith
+    by (Some l) h = rw (le-leb (length l) room h) (λ z. omega arith)

@@ -1,6 +1,8 @@
 -- Room for sets: the searches and the name filter. A set has one rising list, so two calls on the same things have the same need. It has no
 -- more numbers than the keys, ids or indices that they stand in, or than lie below a count.
 -- Assumes nothing.
+use Rattle.refusal.specs.declared.Refusal.{Refusal}
+use Rattle.std.specs.Prelude.{Option, Some, None, Result}
 use Prim.Native.Nat.{ℕ, zero, suc, ◌+◌, ◌-◌, ◌≤◌, max}
 use native.Mathlib.Omega.{arith}
 use mathlib.Core.Path.{◌≡◌, refl, sym, ap, ◌∙◌}
@@ -15,7 +17,6 @@ use Rattle.words.specs.Padded.{padded}
 use Rattle.words.proofs.Shared.{case, cond_elim}
 use Rattle.dalvik.specs.Numbers.{byte, le32}
 use Rattle.dalvik.specs.Ids.{item, string_id_size, method_id_size, string_data_off}
-use Rattle.refusal.specs.declared.Answer.{Answer}
 use Rattle.refusal.specs.Refusals.{answer_number, answer_count, is_too_large}
 use Rattle.refusal.specs.Outcomes.{Outcome, success}
 use Rattle.tinydex.specs.declared.Table.{Table}
@@ -29,8 +30,6 @@ use Rattle.word_set.proofs.Few.{set_in, set_below}
 use Rattle.string_search.specs.Keys.{key_index, good_keys}
 use Rattle.string_search.proofs.Owners.{owner_in}
 use Rattle.string_data.specs.Text as text
-use Rattle.string_data.specs.declared.Zero.{Zero}
-use Rattle.string_data.specs.declared.Zero.TheVariants as z
 use Rattle.string_search.specs.Search.{Area, Owns, search_fault}
 use Rattle.type_search.specs.Types.{TypeFound, TypeWords, or_short, Searched}
 use Rattle.method_search.specs.Methods as search
@@ -57,7 +56,7 @@ fitting : (fault room : ℕ) (xs : List ℕ) → fault ≡ 0 → length xs ≤ r
 fitting fault room xs e h = rw (eq-eqb fault 0 e, le-ltb room (length xs) h)
 
 module _ {P : ℕ → Type 0} where
-  pub found_more : (fault fault' : ℕ) (r r' : Answer) (out out₁ out' out₁' : List ℕ) → Found P fault r out out₁ → Found P fault' r' out' out₁'
+  pub found_more : (fault fault' : ℕ) (r r' : Result ℕ Refusal) (out out₁ out' out₁' : List ℕ) → Found P fault r out out₁ → Found P fault' r' out' out₁'
       → (fault ≡ 0 → fault' ≡ 0) → length out ≤ length out' → answer_number r ≡ 0 → SameList r out₁ r' out' out₁'
   found_more fault fault' r r' out out₁ out' out₁' F G f h e =
       let xs : List ℕ = F.list in
@@ -75,7 +74,7 @@ module _ {P : ℕ → Type 0} where
         words = G.gives.words ∙ (ap (λ (o : Outcome). padded (length out') o.list) b ∙ ap (padded (length out')) (sym front));
       }
 
-  pub found_enough : (fault : ℕ) (r : Answer) (out out₁ : List ℕ) → Found P fault r out out₁ → fault ≢ 4
+  pub found_enough : (fault : ℕ) (r : Result ℕ Refusal) (out out₁ : List ℕ) → Found P fault r out out₁ → fault ≢ 4
       → ((xs : List ℕ) → SetOf P xs → length xs ≤ length out)
       → answer_number r ≢ 4
   found_enough fault r out out₁ F n f e =
@@ -153,9 +152,9 @@ text_at : (s : List ℕ) (i : ℕ) → (text.text_from s i).number ≢ 4
 unfolding text.text_from
 text_at s i = by_zero (text.first_zero s i)
   where
-    by_zero : (r : Zero) → (text.on_zero r (text.none 5) (text.found i)).number ≢ 4
-    by_zero (z.After n) e = omega arith
-    by_zero z.Nothing e = omega arith
+    by_zero : (r : Option ℕ) → (text.on_zero r (text.none 5) (text.found i)).number ≢ 4
+    by_zero (Some n) e = omega arith
+    by_zero None e = omega arith
 
 text_after : (k : ℕ) (s : List ℕ) (i : ℕ) → (text.after_length k s i).number ≢ 4
 unfolding text.after_length
@@ -195,7 +194,7 @@ filter_faults s q given =
 
 -- ---- the operations
 module _ (w : Area) (q : List ℕ) where
-  pub strings_enough : (r : Answer) (out out₁ : List ℕ) → Found (Owns w q) (search_fault (length w.file) 1 (length q) w.keys) r out out₁
+  pub strings_enough : (r : Result ℕ Refusal) (out out₁ : List ℕ) → Found (Owns w q) (search_fault (length w.file) 1 (length q) w.keys) r out out₁
       → length w.keys ≤ length out → answer_number r ≢ 4
   strings_enough r out out₁ F h =
       found_enough (search_fault (length w.file) 1 (length q) w.keys) r out out₁ F (search_faults (length w.file) 1 (length q) w.keys)
@@ -205,7 +204,7 @@ module _ (w : Area) (q : List ℕ) where
     sf : ℕ
     sf = search_fault (length w.file) 0 (length q) w.keys
 
-    pub types_more : (r r' : Answer) (b a b' a' : TypeWords) → Searched w q table r b a → Searched w q table r' b' a'
+    pub types_more : (r r' : Result ℕ Refusal) (b a b' a' : TypeWords) → Searched w q table r b a → Searched w q table r' b' a'
         → length b.strings ≤ length b'.strings → length b.types ≤ length b'.types → answer_number r ≡ 0
         → SameList r a.types r' b'.types a'.types
     unfolding sf
@@ -218,7 +217,7 @@ module _ (w : Area) (q : List ℕ) where
         ∙ short_more sf sf (length b.strings) (length b'.strings) F.strings (λ y. y) h z)
         k
 
-    pub types_enough : (r : Answer) (b a : TypeWords) → Searched w q table r b a → length w.keys ≤ length b.strings
+    pub types_enough : (r : Result ℕ Refusal) (b a : TypeWords) → Searched w q table r b a → length w.keys ≤ length b.strings
         → length table.ids ≤ length b.types
         → answer_number r ≢ 4
     unfolding sf
@@ -255,7 +254,7 @@ module _ (f class : ℕ) (b : SearchWords) (l : Lists) where
       (λ _. short_enough _ (length b.strings) l.of_name by-types z)
 
 -- two searches for the same have the same lists
-same_lists : (k : search.Asked) {r r' : Answer} {b a b' a' : SearchWords} (F : search.Searched k r b a) (G : search.Searched k r' b' a')
+same_lists : (k : search.Asked) {r r' : (Result ℕ Refusal)} {b a b' a' : SearchWords} (F : search.Searched k r b a) (G : search.Searched k r' b' a')
     → G.lists ≡ F.lists
 same_lists k F G =
     rw (
@@ -265,7 +264,7 @@ same_lists k F G =
     )
 
 module _ (k : search.Asked) where
-  pub methods_more : (r r' : Answer) (b a b' a' : SearchWords) → search.Searched k r b a → search.Searched k r' b' a'
+  pub methods_more : (r r' : Result ℕ Refusal) (b a b' a' : SearchWords) → search.Searched k r b a → search.Searched k r' b' a'
       → length b.strings ≤ length b'.strings → length b.types ≤ length b'.types → length b.methods ≤ length b'.methods
       → answer_number r ≡ 0 → SameList r a.methods r' b'.methods a'.methods
   methods_more r r' b a b' a' F G h m n =
@@ -275,7 +274,7 @@ module _ (k : search.Asked) where
       G.found
       (λ z. ap (lent_fault f c b') (same_lists k F G) ∙ lent_more f c b F.lists b' h m z) n
 
-  pub methods_enough : (r : Answer) (b a : SearchWords) → search.Searched k r b a
+  pub methods_enough : (r : Result ℕ Refusal) (b a : SearchWords) → search.Searched k r b a
       → length k.area.keys ≤ length b.strings → length k.types.ids ≤ length b.types → k.methods.size ≤ length b.methods
       → answer_number r ≢ 4
   methods_enough r b a F h m n =
@@ -288,7 +287,7 @@ module _ (k : search.Asked) where
       (omega (arith, owners_few k.area k.query.name F.lists.of_name F.name_owners)))
       (λ xs S. omega (arith, set_below k.methods.size (λ x g. g.below) S))
 
-pub names_enough : (s q given : List ℕ) (r : Answer) (out out₁ : List ℕ) → Found (Named s (le32 s 0x3c) q given) (filter_fault s q given) r out out₁
+pub names_enough : (s q given : List ℕ) (r : Result ℕ Refusal) (out out₁ : List ℕ) → Found (Named s (le32 s 0x3c) q given) (filter_fault s q given) r out out₁
     → length given ≤ length out → answer_number r ≢ 4
 names_enough s q given r out out₁ F h =
     found_enough (filter_fault s q given) r out out₁ F (filter_faults s q given) (λ xs S. omega (arith, set_in given (λ x n. n.listed) S))

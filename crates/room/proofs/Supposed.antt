@@ -1,13 +1,13 @@
 -- Room for a file as demand 3 supposes: that its own lengths suffice is shown with the statement (crate completeness); a kind that is none is
 -- refused by the scan, and a slot lists no more methods than there are codes.
 -- Assumes nothing.
+use Rattle.std.specs.Prelude.{Option, None, Some}
 use Prim.Native.Nat.{ℕ, ◌≤◌}
 use native.Mathlib.Omega.{arith}
 use mathlib.Core.Path.{◌≡◌, refl, ap, ◌∙◌}
 use mathlib.Core.Logic.{◌≢◌, ⊎_elim}
 use mathlib.Core.Bool.{true, false}
 use mathlib.Core.List.{List, [], ◌∷◌}
-use mathlib.Core.Option.{Option, none, some}
 use lib.Dec.{eqb}
 use lib.ListN.{length}
 use borrow.Author.Tests.{le-ltb}
@@ -55,7 +55,7 @@ module _ (s : List ℕ) (h : DexHeader) (codes : List Code)
       (build_is s h codes P strings [] (only room) (table_enough P room M.starts M.triples M.slots M.shares))
 
   -- a kind that is none is refused by the scan
-  unknown : (k : ℕ) (wanted : List ℕ) (w : FindWords) → Enough (length s) h.methods.size k w → kind_of k ≡ none
+  unknown : (k : ℕ) (wanted : List ℕ) (w : FindWords) → Enough (length s) h.methods.size k w → kind_of k ≡ None
       → (find_out s h k wanted (lengths_of w)).number ≡ 2
   unfolding search_out scan_out
   unknown k wanted w E e =
@@ -67,8 +67,8 @@ module _ (s : List ℕ) (h : DexHeader) (codes : List Code)
 
   by_kind : (k : ℕ) (wanted : List ℕ) (w : FindWords) → Enough (length s) h.methods.size k w → (o : Option Kind) → kind_of k ≡ o
       → (find_out s h k wanted (lengths_of w)).number ≢ 4
-  by_kind k wanted w E none e = λ z. omega (arith, unknown k wanted w E e)
-  by_kind k wanted w E (some kind) e =
+  by_kind k wanted w E None e = λ z. omega (arith, unknown k wanted w E e)
+  by_kind k wanted w E (Some kind) e =
       let q : k ≡ kind_number kind = its_number k kind e in
       let F : Enough (length s) h.methods.size (kind_number kind) w = rw q at E in
       rw q (suffices_not_four s h kind wanted w codes P (enough_suffices P kind wanted w F))

@@ -1,11 +1,10 @@
 -- What is stated of room in lent slices: a longer slice never turns a success into a refusal, and with the lengths of Enough.antt no
 -- operation refuses 4. Where a contract names an outcome, the law is of the outcome; where it is a relation, of any answer that it allows.
 -- Assumes nothing.
-use Rattle.std.specs.Prelude.{ℕ, ◌^◌, ◌≤◌, ◌≡◌, ◌≢◌, length, take}
+use Rattle.std.specs.Prelude.{ℕ, ◌^◌, ◌≤◌, ◌≡◌, ◌≢◌, length, take, Result}
 use mathlib.Core.List.{List, Memᴰ}
 use Rattle.words.specs.Padded.{padded}
 use Rattle.refusal.specs.Refusals.{answer_number, answer_count}
-use Rattle.refusal.specs.declared.Answer.{Answer}
 use Rattle.refusal.specs.declared.Refusal.{Refusal}
 use Rattle.dalvik.specs.Numbers.{le32}
 use Rattle.dalvik.specs.CodeItem.{Code}
@@ -63,7 +62,7 @@ pub record LongerAll (a b : Lengths) : Type 0 where
   pub answers : a.answers ≤ b.answers
 
 -- r and the words `after` came of one call, r' and `after'` of another that was lent `before'`: it succeeds with the same list
-pub record SameList (r : Answer) (after : List ℕ) (r' : Answer) (before' after' : List ℕ) : Type 0 where
+pub record SameList (r : Result ℕ Refusal) (after : List ℕ) (r' : Result ℕ Refusal) (before' after' : List ℕ) : Type 0 where
   pub number : answer_number r' ≡ 0
   pub count : answer_count r' ≡ answer_count r
   pub words : after' ≡ padded (length before') (take (answer_count r) after)
@@ -77,20 +76,20 @@ pub record MoreRoom : Type 0 where
       → (methods.outcome s h before).number ≡ 0 → methods.outcome s h before' ≡ methods.outcome s h before
   pub string_map : (s : List ℕ) (table n lent lent' : ℕ) → lent ≤ lent' → (map_outcome s table n lent).number ≡ 0
       → map_outcome s table n lent' ≡ map_outcome s table n lent
-  pub string_search : (w : Area) (q : List ℕ) (r r' : Answer) (out out₁ out' out₁' : List ℕ)
+  pub string_search : (w : Area) (q : List ℕ) (r r' : Result ℕ Refusal) (out out₁ out' out₁' : List ℕ)
       → Found (Owns w q) (search_fault (length w.file) 1 (length q) w.keys) r out out₁
       → Found (Owns w q) (search_fault (length w.file) 1 (length q) w.keys) r' out' out₁'
       → length out ≤ length out' → answer_number r ≡ 0 → SameList r out₁ r' out' out₁'
-  pub type_search : (w : Area) (q : List ℕ) (table : GroupWords) (r r' : Answer) (before after before' after' : TypeWords)
+  pub type_search : (w : Area) (q : List ℕ) (table : GroupWords) (r r' : Result ℕ Refusal) (before after before' after' : TypeWords)
       → types.Searched w q table r before after → types.Searched w q table r' before' after'
       → length before.strings ≤ length before'.strings → length before.types ≤ length before'.types → answer_number r ≡ 0
       → SameList r after.types r' before'.types after'.types
-  pub method_search : (k : Asked) (r r' : Answer) (before after before' after' : SearchWords)
+  pub method_search : (k : Asked) (r r' : Result ℕ Refusal) (before after before' after' : SearchWords)
       → search.Searched k r before after → search.Searched k r' before' after'
       → length before.strings ≤ length before'.strings → length before.types ≤ length before'.types
       → length before.methods ≤ length before'.methods → answer_number r ≡ 0
       → SameList r after.methods r' before'.methods after'.methods
-  pub name_filter : (s q given : List ℕ) (r r' : Answer) (out out₁ out' out₁' : List ℕ)
+  pub name_filter : (s q given : List ℕ) (r r' : Result ℕ Refusal) (out out₁ out' out₁' : List ℕ)
       → Found (Named s (le32 s 0x3c) q given) (filter_fault s q given) r out out₁
       → Found (Named s (le32 s 0x3c) q given) (filter_fault s q given) r' out' out₁'
       → length out ≤ length out' → answer_number r ≡ 0 → SameList r out₁ r' out' out₁'
@@ -134,16 +133,17 @@ pub record NoFour : Type 0 where
       → class_offsets h ≤ length before.clz.offs → class_ids h ≤ length before.clz.ids
       → name_offsets h ≤ length before.name.offs → name_ids h ≤ length before.name.ids → (methods.outcome s h before).number ≢ 4
   pub string_map : (s : List ℕ) (h : DexHeader) (keys : ℕ) → map_keys h ≤ keys → (map_outcome s h.strings.off h.strings.size keys).number ≢ 4
-  pub string_search : (w : Area) (q : List ℕ) (r : Answer) (out out₁ : List ℕ)
+  pub string_search : (w : Area) (q : List ℕ) (r : Result ℕ Refusal) (out out₁ : List ℕ)
       → Found (Owns w q) (search_fault (length w.file) 1 (length q) w.keys) r out out₁
       → strings_found w.keys ≤ length out → answer_number r ≢ 4
-  pub type_search : (w : Area) (q : List ℕ) (table : GroupWords) (r : Answer) (before after : TypeWords) → types.Searched w q table r before after
+  pub type_search : (w : Area) (q : List ℕ) (table : GroupWords) (r : Result ℕ Refusal) (before after : TypeWords)
+      → types.Searched w q table r before after
       → strings_found w.keys ≤ length before.strings → types_found table.ids ≤ length before.types → answer_number r ≢ 4
-  pub method_search : (w : Area) (q : Query) (table : GroupWords) (h : DexHeader) (r : Answer) (before after : SearchWords)
+  pub method_search : (w : Area) (q : Query) (table : GroupWords) (h : DexHeader) (r : Result ℕ Refusal) (before after : SearchWords)
       → search.Searched (search_for w q table h.methods) r before after
       → strings_found w.keys ≤ length before.strings → types_found table.ids ≤ length before.types
       → methods_found h ≤ length before.methods → answer_number r ≢ 4
-  pub name_filter : (s q given : List ℕ) (r : Answer) (out out₁ : List ℕ)
+  pub name_filter : (s q given : List ℕ) (r : Result ℕ Refusal) (out out₁ : List ℕ)
       → Found (Named s (le32 s 0x3c) q given) (filter_fault s q given) r out out₁
       → names_kept given ≤ length out → answer_number r ≢ 4
   -- triples and shares by the codes found; a share's number has 31 bits

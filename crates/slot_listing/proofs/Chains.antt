@@ -1,8 +1,8 @@
 -- Laws of a share's list. Each share goes on with an earlier one, so as many steps as its number are enough, and callers see no bound.
 -- Assumes nothing.
+use Rattle.std.specs.Prelude.{Some, None, Option}
 use mathlib.Core.Path.{◌≡◌, refl, sym, ap, ◌∙◌}
 use mathlib.Core.List.{List, [], ◌∷◌, ◌++◌}
-use mathlib.Core.Option.{Option, none, some}
 use Prim.Native.Nat.{ℕ, zero, suc, ◌+◌, ◌-◌, ◌*◌, ◌/◌, ◌≤◌, ◌<◌}
 use native.Mathlib.Nat.{add-zero}
 use native.Mathlib.Decide.{dec_lt, dec_le}
@@ -11,8 +11,6 @@ use lib.ListN.{length, get_or, length-append}
 use borrow.Author.Tests.{lt-ltb, le-ltb, le-leb, lt-leb, eq-eqb, ne_eqb}
 use Rattle.code_table.specs.Slots.{share_at}
 use Rattle.slot_listing.specs.Listing.{snoc_to, chain}
-use Rattle.slot_listing.specs.declared.Chain.{Chain}
-use Rattle.slot_listing.specs.declared.Chain.TheVariants.{Count, Broken}
 use Rattle.slot_listing.specs.Steps.{methods_of, count_of, list_by}
 
 -- ---- the three words of a share, at the places where the code reads them
@@ -29,16 +27,16 @@ earlier_word ws k = share_at ws k 2
 -- ---- one share
 
 module _ (n : ℕ) (ws : List ℕ) (k : ℕ) where
-  chain_out : length ws / 3 ≤ k → chain (suc n) ws k ≡ none
+  chain_out : length ws / 3 ≤ k → chain (suc n) ws k ≡ None
   unfolding chain
   chain_out h = rw (lt-leb (3 * k + 3) (length ws) (omega arith))
 
   module _ (inside : k < length ws / 3) where
-    chain_end : earlier_word ws k ≡ 0 → chain (suc n) ws k ≡ some (first_word ws k ∷ last_word ws k ∷ [])
+    chain_end : earlier_word ws k ≡ 0 → chain (suc n) ws k ≡ Some (first_word ws k ∷ last_word ws k ∷ [])
     unfolding chain
     chain_end e = rw (le-leb (3 * k + 3) (length ws) (omega arith), eq-eqb (earlier_word ws k) 0 e, add-zero)
 
-    chain_back : k < earlier_word ws k → chain (suc n) ws k ≡ none
+    chain_back : k < earlier_word ws k → chain (suc n) ws k ≡ None
     unfolding chain
     chain_back h =
         rw (
@@ -91,16 +89,16 @@ enough ws (suc n) (suc m) k p q = enough_by ws n m k (λ j h. enough ws n m j (o
 -- ---- what proofs cite
 
 module _ (ws : List ℕ) (k : ℕ) where
-  pub share_outside : length ws / 3 ≤ k → methods_of ws k ≡ none
+  pub share_outside : length ws / 3 ≤ k → methods_of ws k ≡ None
   unfolding methods_of
   share_outside h = chain_out k ws k h
 
   module _ (inside : k < length ws / 3) where
-    pub share_ends : earlier_word ws k ≡ 0 → methods_of ws k ≡ some (first_word ws k ∷ last_word ws k ∷ [])
+    pub share_ends : earlier_word ws k ≡ 0 → methods_of ws k ≡ Some (first_word ws k ∷ last_word ws k ∷ [])
     unfolding methods_of
     share_ends e = chain_end k ws k inside e
 
-    pub share_back : k < earlier_word ws k → methods_of ws k ≡ none
+    pub share_back : k < earlier_word ws k → methods_of ws k ≡ None
     unfolding methods_of
     share_back h = chain_back k ws k inside h
 
@@ -112,27 +110,27 @@ module _ (ws : List ℕ) (k : ℕ) where
 
 -- ---- how many
 
-abbrev pub more : ℕ → Chain → Chain
-more n Broken = Broken
-more n (Count c) = Count (c + n)
+abbrev pub more : ℕ → Option ℕ → Option ℕ
+more n None = None
+more n (Some c) = Some (c + n)
 
-pub more_none : (c : Chain) → more 0 c ≡ c
-more_none Broken = refl
-more_none (Count c) = ap Count (add-zero c)
+pub more_none : (c : Option ℕ) → more 0 c ≡ c
+more_none None = refl
+more_none (Some c) = ap Some (add-zero c)
 
 pub more_one : (n : ℕ) (r : Option (List ℕ)) (x : ℕ) → more n (count_of (snoc_to x r)) ≡ more (n + 1) (count_of r)
-more_one n none x = refl
-more_one n (some l) x =
+more_one n None x = refl
+more_one n (Some l) x =
     let e : length (l ++ x ∷ []) + n ≡ length l + (n + 1) = simp length-append (omega arith) in
-    ap Count e
+    ap Some e
 
-pub count_none : (r : Option (List ℕ)) → count_of r ≡ Broken → r ≡ none
-count_none none e = refl
-count_none (some l) e = absurd (let z : ◌≡◌ {A = ℕ} 0 1 = cc in omega arith)
+pub count_none : (r : Option (List ℕ)) → count_of r ≡ None → r ≡ None
+count_none None e = refl
+count_none (Some l) e = absurd (cc)
 
-pub count_some : (r : Option (List ℕ)) (n : ℕ) → count_of r ≡ Count n → (r ≡ some (list_by r)) × (length (list_by r) ≡ n)
-count_some none n e = absurd (let z : ◌≡◌ {A = ℕ} 0 1 = cc in omega arith)
-count_some (some l) n e = (refl, cc)
+pub count_some : (r : Option (List ℕ)) (n : ℕ) → count_of r ≡ Some n → (r ≡ Some (list_by r)) × (length (list_by r) ≡ n)
+count_some None n e = absurd (cc)
+count_some (Some l) n e = (refl, cc)
 
 -- ---- a share that has a list: the list of the earlier share and its last method, or its two methods
 
@@ -141,26 +139,26 @@ pub record Goes (ws : List ℕ) (k : ℕ) (l : List ℕ) : Type 0 where
   pub some_earlier : 0 < earlier_word ws k
   pub earlier : earlier_word ws k ≤ k
   pub rest : List ℕ
-  pub rest_is : methods_of ws (earlier_word ws k - 1) ≡ some rest
+  pub rest_is : methods_of ws (earlier_word ws k - 1) ≡ Some rest
   pub list : l ≡ rest ++ last_word ws k ∷ []
 
 pub record Ends (ws : List ℕ) (k : ℕ) (l : List ℕ) : Type 0 where
   pub inside : k < length ws / 3
   pub list : l ≡ first_word ws k ∷ last_word ws k ∷ []
 
-never : {A : Type 0} (l : List ℕ) → none ≡ some l → A
-never l e = absurd (let z : ◌≡◌ {A = ℕ} 0 1 = cc in omega arith)
+never : {A : Type 0} (l : List ℕ) → None ≡ Some l → A
+never l e = absurd (cc)
 
 pub data HasList (ws : List ℕ) (k : ℕ) (l : List ℕ) : Type 0 where
   has_ends : Ends ws k l → HasList ws k l
   has_goes : Goes ws k l → HasList ws k l
 
-goes_by : (ws : List ℕ) (k : ℕ) (l : List ℕ) → methods_of ws k ≡ some l → k < length ws / 3 → 0 < earlier_word ws k → earlier_word ws k ≤ k → Goes ws k l
+goes_by : (ws : List ℕ) (k : ℕ) (l : List ℕ) → methods_of ws k ≡ Some l → k < length ws / 3 → 0 < earlier_word ws k → earlier_word ws k ≤ k → Goes ws k l
 goes_by ws k l has h p b = by (methods_of ws (earlier_word ws k - 1)) refl
   where
     by : (r : Option (List ℕ)) → methods_of ws (earlier_word ws k - 1) ≡ r → Goes ws k l
-    by none e = never l (sym (share_goes ws k h p b ∙ ap (snoc_to (last_word ws k)) e) ∙ has)
-    by (some m) e = record {
+    by None e = never l (sym (share_goes ws k h p b ∙ ap (snoc_to (last_word ws k)) e) ∙ has)
+    by (Some m) e = record {
       inside = h;
       some_earlier = p;
       earlier = b;
@@ -169,26 +167,26 @@ goes_by ws k l has h p b = by (methods_of ws (earlier_word ws k - 1)) refl
       list = ap list_by (sym has ∙ share_goes ws k h p b ∙ ap (snoc_to (last_word ws k)) e);
     }
 
-has_by : (ws : List ℕ) (k : ℕ) (l : List ℕ) → methods_of ws k ≡ some l → Share ws k → HasList ws k l
+has_by : (ws : List ℕ) (k : ℕ) (l : List ℕ) → methods_of ws k ≡ Some l → Share ws k → HasList ws k l
 has_by ws k l has (outside h) = never l (sym (share_outside ws k h) ∙ has)
 has_by ws k l has (back h b) = never l (sym (share_back ws k h b) ∙ has)
 has_by ws k l has (ends h e) = has_ends (record { inside = h; list = ap list_by (sym has ∙ share_ends ws k h e) })
 has_by ws k l has (goes h p b) = has_goes (goes_by ws k l has h p b)
 
-pub has_list : (ws : List ℕ) (k : ℕ) (l : List ℕ) → methods_of ws k ≡ some l → HasList ws k l
+pub has_list : (ws : List ℕ) (k : ℕ) (l : List ℕ) → methods_of ws k ≡ Some l → HasList ws k l
 has_list ws k l has = has_by ws k l has (share ws k)
 
 -- a share lists two methods or more: by recursion on the steps that its number allows
-two_by : (ws : List ℕ) (k : ℕ) (l : List ℕ) → ((j : ℕ) (m : List ℕ) → j < k → methods_of ws j ≡ some m → 2 ≤ length m) → HasList ws k l → 2 ≤ length l
+two_by : (ws : List ℕ) (k : ℕ) (l : List ℕ) → ((j : ℕ) (m : List ℕ) → j < k → methods_of ws j ≡ Some m → 2 ≤ length m) → HasList ws k l → 2 ≤ length l
 two_by ws k l ih (has_ends e) = omega (arith, ap length e.list)
 two_by ws k l ih (has_goes g) =
     omega (arith, ih (earlier_word ws k - 1) g.rest (omega arith) g.rest_is, simp length-append at (ap length g.list))
 
-two_in : (n : ℕ) (ws : List ℕ) (k : ℕ) (l : List ℕ) → k < n → methods_of ws k ≡ some l → 2 ≤ length l
+two_in : (n : ℕ) (ws : List ℕ) (k : ℕ) (l : List ℕ) → k < n → methods_of ws k ≡ Some l → 2 ≤ length l
 two_in zero ws k l h has = absurd (omega arith)
 two_in (suc n) ws k l h has = two_by ws k l (λ j m q e. two_in n ws j m (omega arith) e) (has_list ws k l has)
 
-pub two_of : (ws : List ℕ) (k : ℕ) (l : List ℕ) → methods_of ws k ≡ some l → 2 ≤ length l
+pub two_of : (ws : List ℕ) (k : ℕ) (l : List ℕ) → methods_of ws k ≡ Some l → 2 ≤ length l
 two_of ws k l has = two_in (suc k) ws k l (omega arith) has
 
 goes_of : (ws : List ℕ) (k : ℕ) (l : List ℕ) → 2 < length l → HasList ws k l → Goes ws k l
@@ -200,7 +198,14 @@ ends_of ws k l h (has_ends e) = e
 ends_of ws k l h (has_goes g) =
     absurd (omega (arith, two_of ws (earlier_word ws k - 1) g.rest g.rest_is, simp length-append at (ap length g.list)))
 
-module _ (ws : List ℕ) (k : ℕ) (l : List ℕ) (has : methods_of ws k ≡ some l) where
+inside_of : (ws : List ℕ) (k : ℕ) (l : List ℕ) → HasList ws k l → k < length ws / 3
+inside_of ws k l (has_ends e) = e.inside
+inside_of ws k l (has_goes g) = g.inside
+
+module _ (ws : List ℕ) (k : ℕ) (l : List ℕ) (has : methods_of ws k ≡ Some l) where
+  pub list_inside : k < length ws / 3
+  list_inside = inside_of ws k l (has_list ws k l has)
+
   -- a list longer than two goes on with the earlier share; another is the two methods of this one
   pub list_goes : 2 < length l → Goes ws k l
   list_goes h = goes_of ws k l h (has_list ws k l has)

@@ -1,21 +1,15 @@
 // Lists the methods that a slot word stands for (the `Vec<Vec<u32>>` of insn_locator.rs, kept as three words a share).
 #![tactic(auto)]
 
-ghost use Rattle.std.specs.Prelude.{◌≡◌, ◌≤◌, ◌++◌, length, drop};
+ghost use Rattle.std.specs.Prelude.{◌≡◌, ◌≤◌, ◌++◌, length, drop, Some};
 ghost use Rattle.refusal.specs.Outcomes.{Gives};
 ghost use Rattle.slot_listing.specs.Listing.{list_out};
 ghost use Rattle.slot_listing.specs.Steps.{methods_of, count_of, list_by};
-ghost use Rattle.slot_listing.specs.declared.Chain.TheVariants.{Count};
 
-// How many methods a share has, where it and its earlier shares are as they must be.
-#[derive(Clone, Copy)]
-enum Chain {
-    Count(usize),
-    Broken,
-}
+use refusal::Refusal;
 
 // The length of the list of share k.
-fn chain_count(shares: &[u32], k: u32) -> Chain
+fn chain_count(shares: &[u32], k: u32) -> Option<usize>
     ensures { result ≡ count_of (methods_of shares.now k) }
 {
     let room = shares.len() / 3;
@@ -24,28 +18,27 @@ fn chain_count(shares: &[u32], k: u32) -> Chain
     while at < room {
         let earlier = shares[3 * at + 2] as usize;
         if earlier == 0 {
-            return Chain::Count(n + 2);
+            return Some(n + 2);
         }
         if at < earlier {
-            return Chain::Broken;
+            return None;
         }
         at = earlier - 1;
         n += 1;
     }
-    Chain::Broken
+    None
 }
 
 // The list of share k, of n methods: written from its end, since a share knows its last method and the share before.
+// Kept: the words after the n stay as they are, which the clause says of the slice as it is lent.
 fn fill_chain(shares: &[u32], k: u32, n: usize, methods: &mut [u32])
-    requires k_value { count_of (methods_of shares.now k) ≡ Count n }
+    requires k_value { count_of (methods_of shares.now k) ≡ Some n }
     requires n_in_bounds { n ≤ length methods.old }
     ensures { methods.new ≡ list_by (methods_of shares.now k) ++ drop n methods.old }
 {
     let mut at = k as usize;
-    let mut left = n;
-    while 2 < left {
-        left -= 1;
-        methods[left] = shares[3 * at + 1];
+    for i in (2..n).rev() {
+        methods[i] = shares[3 * at + 1];
         at = (shares[3 * at + 2] as usize) - 1;
     }
     methods[0] = shares[3 * at];
@@ -53,28 +46,26 @@ fn fill_chain(shares: &[u32], k: u32, n: usize, methods: &mut [u32])
 }
 
 // The methods of a slot word: none for a free slot.
-pub fn list_slot(shares: &[u32], slot: u32, methods: &mut [u32]) -> refusal::Answer
+pub fn list_slot(shares: &[u32], slot: u32, methods: &mut [u32]) -> Result<usize, Refusal>
     ensures gives { let before = methods.old in
         Gives (list_out shares.now slot (length before)) result before methods.new }
 {
     words::clear(methods);
     if slot == 0 {
-        return refusal::Answer::Done(0);
+        return Ok(0);
     }
     if slot < code_table::SHARED {
         if methods.len() == 0 {
-            return refusal::Answer::Refused(refusal::Refusal::LentTooShort);
+            return Err(Refusal::LentTooShort);
         }
         methods[0] = slot - 1;
-        return refusal::Answer::Done(1);
+        return Ok(1);
     }
     let k = slot - code_table::SHARED;
-    let Chain::Count(n) = chain_count(shares, k) else {
-        return refusal::Answer::Refused(refusal::Refusal::LentTable);
-    };
+    let n = chain_count(shares, k).ok_or(Refusal::LentTable)?;
     if methods.len() < n {
-        return refusal::Answer::Refused(refusal::Refusal::LentTooShort);
+        return Err(Refusal::LentTooShort);
     }
     fill_chain(shares, k, n, methods);
-    refusal::Answer::Done(n)
+    Ok(n)
 }

@@ -4,13 +4,12 @@
 
 ghost use Rattle.std.specs.Prelude.{◌≡◌};
 ghost use Rattle.start_words.specs.Starts.{pair_count, pair_of, first_starts, with_array};
-ghost use Rattle.start_words.specs.Read.{pair_read};
 
-// A method's pair: where its array starts, and the first offset after it. A method without both words has none.
+// Where a method's array starts, and the first offset after it.
 #[derive(Clone, Copy)]
-pub enum ReadPair {
-    Both { start: u32, end: u32 },
-    Missing,
+pub struct Pair {
+    pub start: u32,
+    pub end: u32,
 }
 
 // How many pairs there are, one for each method; an odd last word counts for nothing.
@@ -20,20 +19,22 @@ pub fn count(starts: &[u32]) -> usize
     starts.len() / 2
 }
 
-// The pair of method m.
-pub fn pair(starts: &[u32], m: usize) -> ReadPair
-    ensures { pair_read result ≡ pair_of starts.now m }
+// The pair of method m; none without both words.
+#[tactic(auto, unfolding(crate::specs::Starts::pair_of))]
+pub fn pair_at(starts: &[u32], m: usize) -> Option<Pair>
+    ensures { result ≡ pair_of starts.now m }
 {
     if m < count(starts) {
-        return ReadPair::Both {
+        return Some(Pair {
             start: starts[2 * m],
             end: starts[2 * m + 1],
-        };
+        });
     }
-    ReadPair::Missing
+    None
 }
 
 // The start words of the first n methods; all of them where there are no more.
+#[tactic(auto, unfolding(crate::specs::Starts::first_starts))]
 pub fn first(starts: &[u32], n: u32) -> &[u32]
     ensures { result.now ≡ first_starts n starts.now }
 {
@@ -45,6 +46,7 @@ pub fn first(starts: &[u32], n: u32) -> &[u32]
 }
 
 // The array of method m starts at a place and ends at another. Nothing changes without both words.
+#[tactic(auto, unfolding(crate::specs::Starts::with_array))]
 pub fn set_array(starts: &mut [u32], m: usize, at: u32, end: u32)
     ensures { starts.new ≡ with_array starts.old m at end }
 {

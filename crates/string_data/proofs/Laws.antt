@@ -1,6 +1,7 @@
 -- The definitions of a string's bytes, a law for each way out of them: a length byte goes on, ends the length or refuses, and the
 -- text ends where the first zero stands.
 -- Assumes nothing.
+use Rattle.std.specs.Prelude.{Option, Some, None}
 use Prim.Native.Nat.{ℕ, zero, suc, ◌+◌, ◌-◌, ◌<◌, ◌≤◌, min}
 use native.Mathlib.Omega.{arith}
 use native.Mathlib.Numerals.{add-one}
@@ -19,29 +20,27 @@ use Rattle.words.proofs.Shared.{cond_elim}
 use Rattle.dalvik.specs.Numbers.{byte}
 use Rattle.refusal.specs.Refusals.{is_too_large}
 use Rattle.string_data.specs.Text.{zero_of, first_zero, further, on_zero, Found, none, found, text_from, is_last, after_length, string_text, stretch_of}
-use Rattle.string_data.specs.declared.Zero.{Zero}
-use Rattle.string_data.specs.declared.Zero.TheVariants as z
 
 -- n bytes passed, and then what is found
-ahead : ℕ → Zero → Zero
-ahead n (z.After m) = z.After (n + m)
-ahead n z.Nothing = z.Nothing
+ahead : ℕ → Option ℕ → Option ℕ
+ahead n (Some m) = Some (n + m)
+ahead n None = None
 
-ahead_zero : (r : Zero) → ahead 0 r ≡ r
+ahead_zero : (r : Option ℕ) → ahead 0 r ≡ r
 unfolding ahead
-ahead_zero (z.After m) = ap z.After (zero-add m)
-ahead_zero z.Nothing = refl
+ahead_zero (Some m) = ap Some (zero-add m)
+ahead_zero None = refl
 
-ahead_further : (n : ℕ) (r : Zero) → ahead (n + 1) r ≡ ahead n (further r)
+ahead_further : (n : ℕ) (r : Option ℕ) → ahead (n + 1) r ≡ ahead n (further r)
 unfolding ahead
-ahead_further n (z.After m) = ap z.After (omega arith)
-ahead_further n z.Nothing = refl
+ahead_further n (Some m) = ap Some (omega arith)
+ahead_further n None = refl
 
 module _ (s : List ℕ) (p i : ℕ) where
   zero_start : ahead (p - p) (first_zero s p) ≡ first_zero s p
   zero_start = rw sub_self (ahead_zero _)
 
-  zero_off : (r : Zero) → length s ≤ i → ahead (i - p) (first_zero s i) ≡ r → z.Nothing ≡ r
+  zero_off : (r : Option ℕ) → length s ≤ i → ahead (i - p) (first_zero s i) ≡ r → None ≡ r
   unfolding zero_of first_zero ahead
   zero_off r h e = simp (drop_of_length-le s h) at e
 
@@ -49,19 +48,19 @@ module _ (s : List ℕ) (p i : ℕ) where
   unfolding zero_of first_zero
   zero_later h t = rw (add-one i, drop-cons s i 0 h, ne_eqb _ _ t)
 
-  pub zero_here : i < length s → byte s i ≡ 0 → first_zero s i ≡ z.After 0
+  pub zero_here : i < length s → byte s i ≡ 0 → first_zero s i ≡ Some 0
   unfolding zero_of first_zero
   zero_here h t = rw (drop-cons s i 0 h, eq-eqb _ _ t)
 
-  zero_again : (r : Zero) → i < length s → (byte s i ≡ 0 → ⊥) → p ≤ i → ahead (i - p) (first_zero s i) ≡ r
+  zero_again : (r : Option ℕ) → i < length s → (byte s i ≡ 0 → ⊥) → p ≤ i → ahead (i - p) (first_zero s i) ≡ r
       → ahead (i + 1 - p) (first_zero s (i + 1)) ≡ r
   zero_again r h t q e =
       let z : i + 1 - p ≡ i - p + 1 = omega arith in
       ap (λ (n : ℕ). ahead n (first_zero s (i + 1))) z ∙ (ahead_further (i - p) _ ∙ (ap (ahead (i - p)) (sym (zero_later h t)) ∙ e))
 
-  zero_stop : (r : Zero) → i < length s → byte s i ≡ 0 → p ≤ i → ahead (i - p) (first_zero s i) ≡ r → z.After (i - p) ≡ r
+  zero_stop : (r : Option ℕ) → i < length s → byte s i ≡ 0 → p ≤ i → ahead (i - p) (first_zero s i) ≡ r → Some (i - p) ≡ r
   unfolding ahead
-  zero_stop r h t q e = ap z.After (omega arith) ∙ (ap (ahead (i - p)) (sym (zero_here h t)) ∙ e)
+  zero_stop r h t q e = ap Some (omega arith) ∙ (ap (ahead (i - p)) (sym (zero_here h t)) ∙ e)
 
 -- the first zero from p on, where the search for it ends at r
 module _ (s : List ℕ) (p r : ℕ) (f : First (Either 0 0 s) p (min (length s) (length s)) r) where
@@ -82,42 +81,42 @@ module _ (s : List ℕ) (p r : ℕ) (f : First (Either 0 0 s) p (min (length s) 
       let e : p + (r - p) ≡ r = omega arith in
       subst (λ (i : ℕ). ahead (i - p) (first_zero s i) ≡ first_zero s p) e (passed (r - p) (omega arith))
 
-  pub zero_found : r < length s → z.After (r - p) ≡ first_zero s p
+  pub zero_found : r < length s → Some (r - p) ≡ first_zero s p
   zero_found h =
       let a : p ≤ r = f.after (omega arith) in
       zero_stop s p r _ h (⊎_elim (λ e. e) (λ e. e) (f.here (omega arith))) a (up_to a)
 
-  pub zero_nowhere : length s ≤ r → z.Nothing ≡ first_zero s p
+  pub zero_nowhere : length s ≤ r → None ≡ first_zero s p
   zero_nowhere h =
       ⊎_elim (λ (e : r < p). zero_off s p p _ (omega arith) (zero_start s p p)) (λ (e : p ≤ r). zero_off s p r _ h (up_to e)) (split r p)
 
 -- a zero that is found stands inside the file
-ZeroIn : ℕ → Zero → Type 0
-ZeroIn k (z.After n) = n < k
-ZeroIn k z.Nothing = Unit {0}
+ZeroIn : ℕ → Option ℕ → Type 0
+ZeroIn k (Some n) = n < k
+ZeroIn k None = Unit {0}
 
-further_in : (k : ℕ) (r : Zero) → ZeroIn k r → ZeroIn (suc k) (further r)
+further_in : (k : ℕ) (r : Option ℕ) → ZeroIn k r → ZeroIn (suc k) (further r)
 unfolding ZeroIn
-further_in k (z.After n) h = omega arith
-further_in k z.Nothing h = tt
+further_in k (Some n) h = omega arith
+further_in k None h = tt
 
 zero_of_in : (s : List ℕ) → ZeroIn (length s) (zero_of s)
 unfolding zero_of ZeroIn
 zero_of_in [] = tt
 zero_of_in (b ∷ r) = cond_elim (ZeroIn (suc (length r))) (eqb b 0) _ _ (λ _. omega arith) (λ _. further_in (length r) (zero_of r) (zero_of_in r))
 
-pub zero_in : (s : List ℕ) (i n : ℕ) → z.After n ≡ first_zero s i → i + n < length s
+pub zero_in : (s : List ℕ) (i n : ℕ) → Some n ≡ first_zero s i → i + n < length s
 unfolding first_zero ZeroIn
 zero_in s i n e =
-    let h : ZeroIn (length (drop i s)) (z.After n) = subst (ZeroIn (length (drop i s))) (sym e) (zero_of_in (drop i s)) in
+    let h : ZeroIn (length (drop i s)) (Some n) = subst (ZeroIn (length (drop i s))) (sym e) (zero_of_in (drop i s)) in
     omega (arith, length-drop i s, h)
 
 module _ (s : List ℕ) (i : ℕ) where
-  pub text_ends : (n : ℕ) → z.After n ≡ first_zero s i → found i n ≡ text_from s i
+  pub text_ends : (n : ℕ) → Some n ≡ first_zero s i → found i n ≡ text_from s i
   unfolding text_from
   text_ends n e = rw (← e)
 
-  pub text_open : z.Nothing ≡ first_zero s i → none 5 ≡ text_from s i
+  pub text_open : None ≡ first_zero s i → none 5 ≡ text_from s i
   unfolding text_from
   text_open e = rw (← e)
 
@@ -168,10 +167,10 @@ refused_inside : (s : List ℕ) (r : ℕ) → 0 < r → Inside s (none r)
 unfolding Inside
 refused_inside s r h e = absurd (omega arith)
 
-text_inside : (s : List ℕ) (i : ℕ) (r : Zero) → first_zero s i ≡ r → Inside s (on_zero r (none 5) (found i))
+text_inside : (s : List ℕ) (i : ℕ) (r : Option ℕ) → first_zero s i ≡ r → Inside s (on_zero r (none 5) (found i))
 unfolding Inside
-text_inside s i (z.After n) e _ = zero_in s i n (sym e)
-text_inside s i z.Nothing e p = absurd (omega (arith, p))
+text_inside s i (Some n) e _ = zero_in s i n (sym e)
+text_inside s i None e p = absurd (omega (arith, p))
 
 from_inside : (s : List ℕ) (i : ℕ) → Inside s (text_from s i)
 unfolding text_from
@@ -194,11 +193,8 @@ pub inside : (s : List ℕ) (i a n : ℕ) → found a n ≡ string_text s i → 
 unfolding Inside
 inside s i a n e = subst (Inside s) (sym e) (string_inside s i) refl
 
--- the stretch is the answer's: from a to a + n, or none
+-- the stretch is the answer's: from a to a + n
 pub stretch_found : (s : List ℕ) (a n : ℕ) (f : Found) → found a n ≡ f → take (a + n - a) (drop a s) ≡ stretch_of s f
 stretch_found s a n f e =
     let q : a + n - a ≡ n = omega arith in
     rw q (ap (stretch_of s) e)
-
-pub stretch_none : (s : List ℕ) (r : ℕ) (f : Found) → none r ≡ f → [] ≡ stretch_of s f
-stretch_none s r f e = ap (stretch_of s) e

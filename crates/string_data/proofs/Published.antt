@@ -1,6 +1,7 @@
 -- On a published string_data_item both operations give its text: its size has at most five bytes, and since the value has 32 bits
 -- the fifth is below 0x10.
 -- Assumes nothing.
+use Rattle.std.specs.Prelude.{Some}
 use Prim.Native.Nat.{ℕ, zero, suc, ◌+◌, ◌*◌, ◌-◌, ◌<◌, ◌≤◌}
 use native.Mathlib.Omega.{arith}
 use mathlib.Core.Path.{◌≡◌, sym, ap, ◌∙◌}
@@ -13,17 +14,16 @@ use Rattle.dalvik.specs.Numbers.Leb128.{last_byte, more_bytes}
 use Rattle.dalvik.specs.Ids.{StringData}
 use Rattle.refusal.specs.Refusals.{largest_file}
 use Rattle.string_data.specs.Text.{first_zero, further, found, text_from, after_length, string_text, stretch_of}
-use Rattle.string_data.specs.declared.Zero.TheVariants as z
 use Rattle.string_data.proofs.Laws.{zero_here, zero_later, text_ends, length_ends, length_more, small_enough}
 
 -- n bytes, of which none is zero, and then a zero
-pub zero_at : (s : List ℕ) (n i : ℕ) → i + n < length s → ((k : ℕ) → k < n → byte s (i + k) ≢ 0) → byte s (i + n) ≡ 0 → first_zero s i ≡ z.After n
+pub zero_at : (s : List ℕ) (n i : ℕ) → i + n < length s → ((k : ℕ) → k < n → byte s (i + k) ≢ 0) → byte s (i + n) ≡ 0 → first_zero s i ≡ Some n
 zero_at s zero i h none_zero at = zero_here s i i (omega arith) (ap (byte s) (omega arith) ∙ at)
 zero_at s (suc n) i h none_zero at =
     let later =
     zero_at s n (i + 1) (omega arith) (λ k q e. none_zero (suc k) (omega arith) (ap (byte s) (omega arith) ∙ e))
     (ap (byte s) (omega arith) ∙ at) in
-    zero_later s i i (omega arith) (λ e. none_zero 0 (omega arith) (ap (byte s) (omega arith) ∙ e)) ∙ (ap further later ∙ ap z.After (omega arith))
+    zero_later s i i (omega arith) (λ e. none_zero 0 (omega arith) (ap (byte s) (omega arith) ∙ e)) ∙ (ap further later ∙ ap Some (omega arith))
 
 -- the values of k + 1 length bytes of which the fifth is below 0x10
 unfoldable pub lim : ℕ → ℕ

@@ -3,30 +3,29 @@
 -- string_data_item that is its text: proofs/Published.antt.
 -- Assumes nothing.
 use Rattle.std.specs.Prelude.{ℕ, zero, suc, ◌+◌, List, [], ◌∷◌, Bool, true, false, cond, ◌&&◌, length, take, drop, ltb, eqb}
+use Rattle.std.specs.Prelude.{Option, Some, None, Result, Ok, Err}
 use Rattle.dalvik.specs.Numbers.{byte}
 use Rattle.refusal.specs.Refusals.{refusal_number, is_too_large}
-use Rattle.string_data.specs.declared.Zero.{Zero}
-use Rattle.string_data.specs.declared.Zero.TheVariants as z
-use Rattle.string_data.specs.declared.StringText.{StringText}
-use Rattle.string_data.specs.declared.StringText.TheVariants as t
+use Rattle.refusal.specs.declared.Refusal.{Refusal}
+use Rattle.string_data.specs.declared.Text.{Text}
 
-abbrev pub further : Zero → Zero
-further (z.After n) = z.After (1 + n)
-further z.Nothing = z.Nothing
+abbrev pub further : Option ℕ → Option ℕ
+further (Some n) = Some (1 + n)
+further None = None
 
 -- how many bytes stand before the first zero
-unfoldable pub zero_of : List ℕ → Zero
-zero_of [] = z.Nothing
-zero_of (b ∷ r) = cond (eqb b 0) (z.After 0) (further (zero_of r))
+unfoldable pub zero_of : List ℕ → Option ℕ
+zero_of [] = None
+zero_of (b ∷ r) = cond (eqb b 0) (Some 0) (further (zero_of r))
 
 -- the same from i on
-unfoldable pub first_zero : List ℕ → ℕ → Zero
+unfoldable pub first_zero : List ℕ → ℕ → Option ℕ
 first_zero s i = zero_of (drop i s)
 
 -- going on after a search for a zero: a otherwise, or g of the bytes before it
-abbrev pub on_zero {ℓ} : {A : Type ℓ} → Zero → A → (ℕ → A) → A
-on_zero (z.After n) a g = g n
-on_zero z.Nothing a g = a
+abbrev pub on_zero {ℓ} : {A : Type ℓ} → Option ℕ → A → (ℕ → A) → A
+on_zero (Some n) a g = g n
+on_zero None a g = a
 
 -- the refusal's number, 0 for success; where the text starts, and how many bytes it has
 pub record Found : Type 0 where
@@ -41,13 +40,18 @@ abbrev pub found : ℕ → ℕ → Found
 found a n = record { number = 0; start = a; len = n }
 
 -- the number and the values of each answer
-abbrev pub says : StringText → Found
-says (t.Text a n) = found a n
-says (t.Refused r) = none (refusal_number r)
+abbrev pub says : Result Text Refusal → Found
+says (Ok t) = found t.start t.len
+says (Err r) = none (refusal_number r)
 
 -- the text that starts at i; 5: no zero
 unfoldable pub text_from : List ℕ → ℕ → Found
 text_from s i = on_zero (first_zero s i) (none 5) (found i)
+
+-- the text, by what reading its length bytes answers
+abbrev pub text_at : List ℕ → Result ℕ Refusal → Found
+text_at s (Ok a) = text_from s a
+text_at s (Err r) = none (refusal_number r)
 
 -- with no byte left after it a length byte is the fifth
 abbrev pub is_last : ℕ → Bool

@@ -3,78 +3,69 @@
 #![tactic(auto)]
 
 ghost use Rattle.std.specs.Prelude.{◌≡◌};
-ghost use Rattle.string_data.specs.Text.{first_zero, says, text_from, string_text, stretch_of};
+ghost use Rattle.string_data.specs.Text.{first_zero, says, text_from, text_at, after_length, string_text, stretch_of};
 
 use refusal::Refusal;
 
-// How many bytes stand before the first zero byte.
+// Where the text of a string starts and how many bytes it has.
 #[derive(Clone, Copy)]
-pub enum Zero {
-    After(usize),
-    Nothing,
-}
-
-// Where the text of a string starts and how many bytes it has, or why it is refused.
-#[derive(Clone, Copy)]
-pub enum StringText {
-    Text { start: usize, len: usize },
-    Refused(Refusal),
+pub struct Text {
+    pub start: usize,
+    pub len: usize,
 }
 
 // The first zero byte at or after a place.
-pub fn first_zero(file: &[u8], from: usize) -> Zero
+pub fn first_zero(file: &[u8], from: usize) -> Option<usize>
     ensures { result ≡ first_zero file.now from }
 {
     let at = byte_search::memchr(0, file, from, file.len());
     if at < file.len() {
-        return Zero::After(at - from);
+        Some(at - from)
+    } else {
+        None
     }
-    Zero::Nothing
+}
+
+// Where the text of the string data at an offset starts: after at most five length bytes.
+pub fn text_start(file: &[u8], offset: usize) -> Result<usize, Refusal>
+    ensures { text_at file.now result ≡ after_length 5 file.now offset }
+{
+    for i in 0..5 {
+        let at = offset + i;
+        let b = *file.get(at).ok_or(Refusal::NumberOutside)?;
+        if i == 4 && 15 < b {
+            return Err(Refusal::LengthOverflow);
+        }
+        if b < 128 {
+            return Ok(at + 1);
+        }
+    }
+    Err(Refusal::LengthOverflow)
 }
 
 // The text that starts at a place.
-fn text_from(file: &[u8], start: usize) -> StringText
+fn text_from(file: &[u8], start: usize) -> Result<Text, Refusal>
     ensures { says result ≡ text_from file.now start }
 {
-    match first_zero(file, start) {
-        Zero::After(len) => StringText::Text { start, len },
-        Zero::Nothing => StringText::Refused(Refusal::StringOutside),
-    }
+    let len = first_zero(file, start).ok_or(Refusal::StringOutside)?;
+    Ok(Text { start, len })
 }
 
-// Where the text of the string data at an offset stands: after at most five length bytes, up to the first zero byte.
-pub fn string_data(file: &[u8], offset: usize) -> StringText
+// Where the text of the string data at an offset stands, or why it is refused: from its start up to the first zero byte.
+pub fn string_data(file: &[u8], offset: usize) -> Result<Text, Refusal>
     ensures { says result ≡ string_text file.now offset }
 {
     if refusal::too_large(file.len()) {
-        return StringText::Refused(Refusal::FileTooLarge);
+        return Err(Refusal::FileTooLarge);
     }
-    let mut at = offset;
-    let mut left: u32 = 5;
-    while 0 < left {
-        if file.len() <= at {
-            return StringText::Refused(Refusal::NumberOutside);
-        }
-        let b = file[at];
-        at += 1;
-        left -= 1;
-        if left == 0 {
-            if 15 < b {
-                return StringText::Refused(Refusal::LengthOverflow);
-            }
-        }
-        if b < 128 {
-            return text_from(file, at);
-        }
-    }
-    StringText::Refused(Refusal::LengthOverflow)
+    text_from(file, text_start(file, offset)?)
 }
 
 // The text itself: that very stretch of the file, and the empty one where `string_data` refuses.
 pub fn string_data_bytes(file: &[u8], offset: usize) -> &[u8]
     ensures { result.now ≡ stretch_of file.now (string_text file.now offset) }
 {
-    let StringText::Text { start, len } = string_data(file, offset) else {
+    let Ok(Text { start, len }) = string_data(file, offset) else {
         return &file[..0];
     };
     let end = start + len;

@@ -1,6 +1,7 @@
 -- The text area of a map lies inside the file, and every string's data begin in it: it runs from the least data offset to after the
 -- greatest.
 -- Assumes nothing.
+use Rattle.std.specs.Prelude.{Option, Some, None}
 use Prim.Native.Nat.{ℕ, ◌+◌, ◌<◌, ◌≤◌}
 use native.Mathlib.Omega.{arith}
 use mathlib.Core.Path.{◌≡◌, refl}
@@ -12,12 +13,8 @@ use Rattle.words.proofs.Shared.{cond_elim}
 use Rattle.dalvik.specs.Ids.{item, string_id_size, string_data_off}
 use Rattle.refusal.specs.Refusals.{is_too_large}
 use Rattle.string_data.specs.Text.{first_zero, on_zero}
-use Rattle.string_data.specs.declared.Zero.{Zero}
-use Rattle.string_data.specs.declared.Zero.TheVariants as z
 use Rattle.string_data.proofs.Laws.{zero_in}
 use Rattle.string_locator.specs.LengthBytes.{length_bytes, on_length}
-use Rattle.string_locator.specs.declared.Length.{Length}
-use Rattle.string_locator.specs.declared.Length.TheVariants as l
 use Rattle.string_locator.specs.Map.{least, greatest, MapOutcome, none, area, text_area, strings_area, map_outcome}
 use Rattle.string_locator.proofs.LengthBytes.{length_in}
 use Rattle.string_locator.proofs.Keys.{least_low, greatest_high}
@@ -32,19 +29,19 @@ module _ (s : List ℕ) (table n : ℕ) where
   none_within r = record { forward = omega arith; inside = omega arith; covers = λ i h. absurd (omega arith) }
 
   module _ (lo hi : ℕ) (low : (i : ℕ) → i < n → lo ≤ string_data_off s table i) (high : (i : ℕ) → i < n → string_data_off s table i ≤ hi) (p : lo ≤ hi) where
-    zero_within : (k : ℕ) → 1 ≤ k → (r : Zero) → r ≡ first_zero s (hi + k) → Within s table (on_zero r (none 5) (λ (m : ℕ). area lo (hi + k + m + 1) n))
-    zero_within k q (z.After m) e =
+    zero_within : (k : ℕ) → 1 ≤ k → (r : Option ℕ) → r ≡ first_zero s (hi + k) → Within s table (on_zero r (none 5) (λ (m : ℕ). area lo (hi + k + m + 1) n))
+    zero_within k q (Some m) e =
         record {
           forward = omega arith;
           inside = omega (arith, zero_in s (hi + k) m e);
           covers = λ i h. (low i h, omega (arith, high i h));
         }
-    zero_within k q z.Nothing e = none_within 5
+    zero_within k q None e = none_within 5
 
-    len_within : (r : Length) → r ≡ length_bytes s hi
+    len_within : (r : Option ℕ) → r ≡ length_bytes s hi
         → Within s table (on_length r (none 5) (λ (k : ℕ). on_zero (first_zero s (hi + k)) (none 5) (λ (m : ℕ). area lo (hi + k + m + 1) n)))
-    len_within (l.Bytes k) e = zero_within k (length_in s hi k e).0 (first_zero s (hi + k)) refl
-    len_within l.Nothing e = none_within 5
+    len_within (Some k) e = zero_within k (length_in s hi k e).0 (first_zero s (hi + k)) refl
+    len_within None e = none_within 5
 
     text_within : Within s table (text_area s lo hi n)
     unfolding text_area

@@ -1,6 +1,7 @@
 -- The string map's definitions, a law for each way out of them. Keys are written one after another, and the bounds are those of the
 -- strings passed.
 -- Assumes nothing.
+use Rattle.std.specs.Prelude.{Option, Some, None}
 use Prim.Native.Nat.{ℕ, zero, suc, ◌+◌, ◌<◌, ◌≤◌, min, max}
 use native.Mathlib.Omega.{arith}
 use native.Mathlib.Numerals.{add-one}
@@ -11,37 +12,16 @@ use lib.ListN.{length, get_or, take, drop, set, length-append, length-take, leng
 use lib.Dec.{ltb, leb, eqb}
 use lib.Seq.{drop-cons, set_at, drop-length}
 use borrow.Author.Tests.{lt-ltb, le-ltb, le-leb, lt-leb, eq-eqb, ne_eqb, ltb-false}
-use Rattle.dalvik.specs.Numbers.{le32}
 use Rattle.dalvik.specs.Ids.{item, string_id_size, string_data_off}
 use Rattle.words.specs.Padded.{zeros, padded}
 use Rattle.words.proofs.Padded.{padded_none, padded_front}
 use Rattle.words.proofs.Shared.{cond_elim}
 use Rattle.refusal.specs.Refusals.{is_too_large}
-use Rattle.structs.specs.Reads.{read32}
-use Rattle.structs.specs.declared.Read32.TheVariants as v32
-use Rattle.structs.proofs.Laws.{in32}
 use Rattle.string_data.specs.Text.{first_zero, on_zero}
-use Rattle.string_data.specs.declared.Zero.{Zero}
-use Rattle.string_data.specs.declared.Zero.TheVariants as z
 use Rattle.sort_keys.specs.Sorted.{sorted}
 use Rattle.sort_keys.proofs.Sorted.{length_sorted}
 use Rattle.string_locator.specs.LengthBytes.{length_bytes, on_length}
-use Rattle.string_locator.specs.declared.Length.{Length}
-use Rattle.string_locator.specs.declared.Length.TheVariants as l
 use Rattle.string_locator.specs.Map.{key_of, keys_of, least, greatest, MapOutcome, none, area, text_area, strings_area, map_outcome}
-
--- ---- a data offset read
-module _ (s : List ℕ) (at : ℕ) (h : at + 4 ≤ length s) where
-  pub read_inside : (v : ℕ) → v32.Value v ≡ read32 s at → v ≡ le32 s at
-  read_inside v e =
-      let f : v32.Value v ≡ v32.Value (le32 s at) = e ∙ sym (in32 s at h) in
-      cc
-
-  pub read_not_outside : v32.Outside ≡ read32 s at → ⊥
-  read_not_outside e =
-      let f : v32.Outside ≡ v32.Value (le32 s at) = e ∙ sym (in32 s at h) in
-      let n : ◌≡◌ {A = ℕ} 0 1 = cc in
-      omega arith
 
 module _ (s : List ℕ) (table : ℕ) where
   -- ---- the keys
@@ -82,15 +62,15 @@ module _ (s : List ℕ) (table : ℕ) where
 
 -- ---- the area
 module _ (s : List ℕ) (lo hi n : ℕ) where
-  pub no_length : l.Nothing ≡ length_bytes s hi → none 5 ≡ text_area s lo hi n
+  pub no_length : None ≡ length_bytes s hi → none 5 ≡ text_area s lo hi n
   unfolding text_area
   no_length e = rw (← e)
 
-  pub no_zero : (k : ℕ) → l.Bytes k ≡ length_bytes s hi → z.Nothing ≡ first_zero s (hi + k) → none 5 ≡ text_area s lo hi n
+  pub no_zero : (k : ℕ) → Some k ≡ length_bytes s hi → None ≡ first_zero s (hi + k) → none 5 ≡ text_area s lo hi n
   unfolding text_area
   no_zero k e f = rw (← e, ← f)
 
-  pub area_found : (k m : ℕ) → l.Bytes k ≡ length_bytes s hi → z.After m ≡ first_zero s (hi + k) → area lo (hi + k + m + 1) n ≡ text_area s lo hi n
+  pub area_found : (k m : ℕ) → Some k ≡ length_bytes s hi → Some m ≡ first_zero s (hi + k) → area lo (hi + k + m + 1) n ≡ text_area s lo hi n
   unfolding text_area
   area_found k m e f = rw (← e, ← f)
 
@@ -138,13 +118,13 @@ module _ (s : List ℕ) (table n lent : ℕ) where
   none_room : (a e r : ℕ) → Room s table n lent (record { number = r; start = a; end = e; count = 0 })
   none_room a e r = record { lent_enough = omega arith; few = omega arith; ids = λ p. absurd (omega arith) }
 
-  zero_room : (r : Zero) (g : ℕ → MapOutcome) → ((k : ℕ) → Room s table n lent (g k)) → Room s table n lent (on_zero r (none 5) g)
-  zero_room (z.After k) g h = h k
-  zero_room z.Nothing g h = none_room 0 0 5
+  zero_room : (r : Option ℕ) (g : ℕ → MapOutcome) → ((k : ℕ) → Room s table n lent (g k)) → Room s table n lent (on_zero r (none 5) g)
+  zero_room (Some k) g h = h k
+  zero_room None g h = none_room 0 0 5
 
-  len_room : (r : Length) (g : ℕ → MapOutcome) → ((k : ℕ) → Room s table n lent (g k)) → Room s table n lent (on_length r (none 5) g)
-  len_room (l.Bytes k) g h = h k
-  len_room l.Nothing g h = none_room 0 0 5
+  len_room : (r : Option ℕ) (g : ℕ → MapOutcome) → ((k : ℕ) → Room s table n lent (g k)) → Room s table n lent (on_length r (none 5) g)
+  len_room (Some k) g h = h k
+  len_room None g h = none_room 0 0 5
 
   text_room : (lo hi : ℕ) → n ≤ lent → item table string_id_size n ≤ length s → Room s table n lent (text_area s lo hi n)
   unfolding text_area

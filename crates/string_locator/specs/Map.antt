@@ -1,15 +1,15 @@
 -- The string map (SPEC, String map; `_build_map` of string_locator.rs): a key for each string, sorted, and
 -- the text area. Faults in order: 1; no string succeeds; 3; 4; 5.
 -- Assumes nothing.
-use Rattle.std.specs.Prelude.{ℕ, zero, suc, ◌+◌, ◌*◌, ◌^◌, min, max, ◌≡◌, List, [], ◌∷◌, ◌++◌, cond, length, ltb, leb, eqb}
+use Rattle.std.specs.Prelude.{ℕ, zero, suc, ◌+◌, ◌*◌, ◌^◌, min, max, ◌≡◌, List, [], ◌∷◌, ◌++◌, cond, length, ltb, leb, eqb, Result, Ok, Err}
 use Rattle.words.specs.Padded.{padded}
 use Rattle.dalvik.specs.Ids.{item, string_id_size, string_data_off}
+use Rattle.refusal.specs.declared.Refusal.{Refusal}
 use Rattle.refusal.specs.Refusals.{refusal_number, is_too_large}
 use Rattle.string_data.specs.Text.{first_zero, on_zero}
 use Rattle.sort_keys.specs.Sorted.{sorted}
 use Rattle.string_locator.specs.LengthBytes.{length_bytes, on_length}
 use Rattle.string_locator.specs.declared.StringMap.{StringMap}
-use Rattle.string_locator.specs.declared.StringMap.TheVariants as m
 
 -- ---- the keys: data offset and index of each string
 abbrev pub key_of : List ℕ → ℕ → ℕ → ℕ
@@ -43,9 +43,9 @@ abbrev pub area : ℕ → ℕ → ℕ → MapOutcome
 area a e n = record { number = 0; start = a; end = e; count = n }
 
 -- the number and the values of each answer
-abbrev pub says : StringMap → MapOutcome
-says (m.Map a e n) = area a e n
-says (m.Refused r) = none (refusal_number r)
+abbrev pub says : Result StringMap Refusal → MapOutcome
+says (Ok m) = area m.start m.end m.count
+says (Err r) = none (refusal_number r)
 
 -- from lo to the first zero after the length bytes at hi, that zero included; 5: there is none
 unfoldable pub text_area : List ℕ → ℕ → ℕ → ℕ → MapOutcome
@@ -64,6 +64,6 @@ map_outcome s table n lent =
     (cond (ltb (length s) (item table string_id_size n)) (none 3) (cond (ltb lent n) (none 4) (strings_area s table n))))
 
 -- the answer, and in the lent words the sorted keys with zeros after them: a refusal has no key
-pub record Built (s : List ℕ) (table n : ℕ) (r : StringMap) (before after : List ℕ) : Type 0 where
+pub record Built (s : List ℕ) (table n : ℕ) (r : Result StringMap Refusal) (before after : List ℕ) : Type 0 where
   pub answer : says r ≡ map_outcome s table n (length before)
   pub keys : after ≡ padded (length before) (sorted (keys_of s table (map_outcome s table n (length before)).count))

@@ -10,19 +10,14 @@ ghost use Rattle.string_locator.specs.Map.{keys_of, least, greatest, says, text_
 ghost use Rattle.string_locator.specs.Steps.{Inside};
 
 use refusal::Refusal;
-use string_data::Zero;
-use structs::Read32;
 use tinydex::{DexHeader, Table};
 
-// The text area and how many keys there are, or why there is no map.
+// The text area, and how many keys there are.
 #[derive(Clone, Copy)]
-pub enum StringMap {
-    Map {
-        start: usize,
-        end: usize,
-        count: usize,
-    },
-    Refused(Refusal),
+pub struct StringMap {
+    pub start: usize,
+    pub end: usize,
+    pub count: usize,
 }
 
 // The least and the greatest data offset.
@@ -37,10 +32,7 @@ fn data_offset(file: &[u8], table: usize, i: usize) -> u32
     requires { Inside file.now table (i + 1) }
     ensures { result ≡ string_data_off file.now table i }
 {
-    let Read32::Value(offset) = structs::read_u32(file, table + 4 * i) else {
-        return 0;
-    };
-    offset
+    structs::u32_at(file, table + 4 * i)
 }
 
 // The bounds of the first n data offsets.
@@ -48,95 +40,75 @@ fn offset_bounds(file: &[u8], table: usize, n: usize) -> Bounds
     requires { (0 < n) × Inside file.now table n }
     ensures { (result.least ≡ least file.now table n) × (result.greatest ≡ greatest file.now table n) }
 {
-    let mut lo = data_offset(file, table, 0);
-    let mut hi = lo;
-    let mut i = 0;
-    while i < n {
+    let first = data_offset(file, table, 0);
+    let (mut least, mut greatest) = (first, first);
+    for i in 0..n {
         let offset = data_offset(file, table, i);
-        lo = words::lesser(lo, offset);
-        hi = words::greater(hi, offset);
-        i += 1;
+        least = least.min(offset);
+        greatest = greatest.max(offset);
     }
-    Bounds {
-        least: lo,
-        greatest: hi,
-    }
-}
-
-// How many length bytes string data have.
-#[derive(Clone, Copy)]
-enum Length {
-    Bytes(usize),
-    Nothing,
+    Bounds { least, greatest }
 }
 
 // The bytes up to and with the first below 128, however many.
-fn length_bytes(file: &[u8], from: usize) -> Length
+fn length_bytes(file: &[u8], from: usize) -> Option<usize>
     ensures { result ≡ length_bytes file.now from }
 {
-    let mut at = from;
-    while at < file.len() {
-        let b = file[at];
-        at += 1;
-        if b < 128 {
-            let n = at - from;
-            return Length::Bytes(n);
+    for at in from..file.len() {
+        if file[at] < 128 {
+            return Some(at + 1 - from);
         }
     }
-    Length::Nothing
+    None
 }
 
 // The area, where the string with the greatest data offset has its final zero.
-fn text_area(file: &[u8], lo: usize, hi: usize, count: usize) -> StringMap
+fn text_area(file: &[u8], lo: usize, hi: usize, count: usize) -> Result<StringMap, Refusal>
     ensures { says result ≡ text_area file.now lo hi count }
 {
-    let Length::Bytes(len) = length_bytes(file, hi) else {
-        return StringMap::Refused(Refusal::StringOutside);
-    };
+    let len = length_bytes(file, hi).ok_or(Refusal::StringOutside)?;
     let text = hi + len;
-    let Zero::After(before) = string_data::first_zero(file, text) else {
-        return StringMap::Refused(Refusal::StringOutside);
-    };
-    StringMap::Map {
+    let before = string_data::first_zero(file, text).ok_or(Refusal::StringOutside)?;
+    Ok(StringMap {
         start: lo,
         end: text + before + 1,
         count,
-    }
+    })
 }
 
 // The area of n strings, all of whose data begin inside the file.
-fn strings_area(file: &[u8], table: usize, n: usize) -> StringMap
+fn strings_area(file: &[u8], table: usize, n: usize) -> Result<StringMap, Refusal>
     requires { (0 < n) × Inside file.now table n }
     ensures { says result ≡ strings_area file.now table n }
 {
-    let b = offset_bounds(file, table, n);
-    let hi = b.greatest as usize;
+    let bounds = offset_bounds(file, table, n);
+    let hi = bounds.greatest as usize;
     if file.len() <= hi {
-        return StringMap::Refused(Refusal::StringOutside);
+        return Err(Refusal::StringOutside);
     }
-    text_area(file, b.least as usize, hi, n)
+    text_area(file, bounds.least as usize, hi, n)
 }
 
 // The answer: nothing is written before it is known.
-fn answer(file: &[u8], strings: Table, lent: usize) -> StringMap
+fn answer(file: &[u8], strings: Table, lent: usize) -> Result<StringMap, Refusal>
     ensures { says result ≡ map_outcome file.now strings.off strings.size lent }
 {
     if refusal::too_large(file.len()) {
-        return StringMap::Refused(Refusal::FileTooLarge);
+        return Err(Refusal::FileTooLarge);
     }
     let n = strings.size as usize;
     if n == 0 {
-        return StringMap::Map {
+        return Ok(StringMap {
             start: 0,
             end: 0,
             count: 0,
-        };
+        });
     }
     if (file.len() as u64) < strings.end(4) {
-        return StringMap::Refused(Refusal::TableOutside);
+        return Err(Refusal::TableOutside);
     }
     if lent < n {
-        return StringMap::Refused(Refusal::LentTooShort);
+        return Err(Refusal::LentTooShort);
     }
     strings_area(file, strings.off as usize, n)
 }
@@ -149,30 +121,20 @@ fn put_keys(file: &[u8], table: usize, keys: &mut [u64])
     requires { Inside file.now table (length keys.old) }
     ensures { keys.new ≡ sorted (keys_of file.now table (length keys.old)) }
 {
-    let mut i = 0;
-    while i < keys.len() {
+    for i in 0..keys.len() {
         let offset = data_offset(file, table, i);
         keys[i] = (offset as u64) * INDEX_SPAN + (i as u64);
-        i += 1;
     }
     sort_keys::sort(keys);
 }
 
 // The map: the sorted keys in front of the lent words, zeros after them, and only zeros where it refuses.
-pub fn build_map(file: &[u8], header: DexHeader, keys: &mut [u64]) -> StringMap
+pub fn build_map(file: &[u8], header: DexHeader, keys: &mut [u64]) -> Result<StringMap, Refusal>
     ensures { Built file.now header.strings.off header.strings.size result keys.old keys.new }
 {
-    words::clear_wide(keys);
+    words::clear(keys);
     let strings = header.strings;
-    let found = answer(file, strings, keys.len());
-    let StringMap::Map {
-        start: _,
-        end: _,
-        count,
-    } = found
-    else {
-        return found;
-    };
-    put_keys(file, strings.off as usize, &mut keys[..count]);
-    found
+    let map = answer(file, strings, keys.len())?;
+    put_keys(file, strings.off as usize, &mut keys[..map.count]);
+    Ok(map)
 }

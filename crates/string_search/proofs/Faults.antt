@@ -3,7 +3,7 @@
 use Prim.Native.Nat.{ℕ, ◌≤◌, ◌<◌}
 use mathlib.Core.Path.{◌≡◌}
 use mathlib.Core.Bool.{true, false}
-use mathlib.Core.Logic.{⊎_elim}
+use mathlib.Core.Logic.{◌⊎◌, ⊎_elim}
 use mathlib.Core.List.{List}
 use lib.Dec.{ltb}
 use native.Mathlib.Omega.{arith}
@@ -27,6 +27,10 @@ module _ (len shortest n : ℕ) (ks : List ℕ) where
     pub fault_long : 255 < n → 9 ≡ search_fault len shortest n ks
     unfolding search_fault
     fault_long h = rw (l, or_right (ltb n shortest) (ltb 255 n) (lt-ltb _ _ h))
+
+    -- the tests of the query in one: it is too short, or it isn't and is too long
+    pub fault_query : (n < shortest) ⊎ ((shortest ≤ n) × (255 < n)) → 9 ≡ search_fault len shortest n ks
+    fault_query h = ⊎_elim fault_short (λ (b : (shortest ≤ n) × (255 < n)). fault_long b.1) h
 
     pub fault_keys : shortest ≤ n → n ≤ 255 → good_keys ks ≡ false → 15 ≡ search_fault len shortest n ks
     unfolding search_fault

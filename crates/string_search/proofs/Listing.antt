@@ -2,15 +2,15 @@
 -- there is the first one and its owner joins those from its end on, and without one the owners are those from the next place on.
 --     occurrence_touched          every occurrence begins in a find, or where one begins
 --     owners_listed               the rising list
---     backward, past_end, in_area the area
+--     outside, in_area            the area
 -- Assumes nothing.
+use Rattle.std.specs.Prelude.{Option}
 use Prim.Native.Nat.{ℕ, zero, suc, ◌+◌, ◌≤◌, ◌<◌}
 use native.Mathlib.Omega.{arith}
 use mathlib.Core.Path.{◌≡◌, refl, ap, sym, subst, ◌∙◌}
-use mathlib.Core.Logic.{inl, inr, ⊎_elim}
+use mathlib.Core.Logic.{◌⊎◌, inl, inr, ⊎_elim}
 use mathlib.Core.List.{List}
 use lib.ListN.{length}
-use Rattle.word_set.specs.declared.Insertion.{Insertion}
 use Rattle.word_set.specs.Steps.{Matched}
 use Rattle.word_set.proofs.Found.{matched_same}
 use Rattle.word_set.proofs.Sets.{below_or_not, Listed, set_none, set_with, set_same}
@@ -124,14 +124,13 @@ module _ (w : Area) (q : List ℕ) where
       (below_or_not 0 (length q))
 
   -- an area backward or past the file's end has no owner
-  pub backward : w.to < w.from → (x : ℕ) → Owns w q x → ⊥
-  backward h x o = omega (arith, o.forward)
-
-  pub past_end : length w.file < w.to → (x : ℕ) → Owns w q x → ⊥
-  past_end h x o = omega (arith, o.inside)
+  pub outside : (w.to < w.from) ⊎ ((w.from ≤ w.to) × (length w.file < w.to)) → (x : ℕ) → Owns w q x → ⊥
+  outside d x o =
+      ⊎_elim (λ (h : w.to < w.from). omega (arith, o.forward))
+      (λ (h : (w.from ≤ w.to) × (length w.file < w.to)). omega (arith, o.inside, h.1)) d
 
   -- the owners from the area's start on are those of the area
   module _ (asked : 0 < length q) (forward : w.from ≤ w.to) (inside : w.to ≤ length w.file) where
-    pub in_area : {out out' : List ℕ} {r : Insertion} → Matched (OwnsFrom w.file w.keys q w.to w.from) out out' r
+    pub in_area : {out out' : List ℕ} {r : (Option ℕ)} → Matched (OwnsFrom w.file w.keys q w.to w.from) out out' r
         → Matched (Owns w q) out out' r
     in_area m = matched_same (λ x o. record { asked = asked; forward = forward; inside = inside; owned = o }) (λ x o. o.owned) m

@@ -1,16 +1,14 @@
 -- What the inner steps of string search are asked, and what they yield.
 -- Assumes nothing.
-use Rattle.std.specs.Prelude.{ℕ, ◌≤◌, ◌<◌, ◌≡◌, List, length}
+use Rattle.std.specs.Prelude.{ℕ, ◌≤◌, ◌<◌, ◌≡◌, List, length, Option, Some, None}
 use Rattle.words.specs.Padded.{zeros}
 use Rattle.words.specs.Rising.{Rising}
 use Rattle.refusal.specs.Refusals.{largest_file}
-use Rattle.word_set.specs.declared.Insertion.{Insertion}
-use Rattle.word_set.specs.declared.Insertion.TheVariants.{Held}
 use Rattle.index_set.specs.Marked.{SetWords, Added}
 use Rattle.byte_search.specs.Occurs.{Occurs}
-use Rattle.string_search.specs.declared.Next.{Next}
-use Rattle.string_search.specs.declared.Next.TheVariants.{At, Nothing}
 use Rattle.string_search.specs.Finds.{First}
+use Rattle.string_search.specs.Search.{OwnsFrom}
+use Rattle.string_search.specs.declared.Asked.{Asked}
 use Rattle.string_search.specs.declared.Owner.{Owner}
 use Rattle.string_search.specs.declared.Owner.TheVariants.{Entry, Absent}
 
@@ -26,12 +24,19 @@ pub record Ready (s ks q : List ℕ) (e from : ℕ) (out : List ℕ) : Type 0 wh
   pub rising : Rising ks
   pub clear : out ≡ zeros (length out)
 
+-- .. for what is asked, and its owners
+abbrev pub ReadyFor : Asked → List ℕ → Type 0
+ReadyFor a out = Ready a.file.now a.keys.now a.query.now a.end a.start out
+
+abbrev pub OwnsAsked : Asked → ℕ → Type 0
+OwnsAsked a = OwnsFrom a.file.now a.keys.now a.query.now a.end a.start
+
 -- one find: an owner joins the set
-pub data Stepped (o : Owner) (n : ℕ) (before after : SetWords) (r : Insertion) : Type 0 where
+pub data Stepped (o : Owner) (n : ℕ) (before after : SetWords) (r : Option ℕ) : Type 0 where
   joined : (i : ℕ) → o ≡ Entry i → Added i n before after r → Stepped o n before after r
-  passed : o ≡ Absent → after ≡ before → r ≡ Held n → Stepped o n before after r
+  passed : o ≡ Absent → after ≡ before → r ≡ Some n → Stepped o n before after r
 
 -- what looking for the next find answers
-pub data NextFind (s q : List ℕ) (e from : ℕ) (r : Next) : Type 0 where
-  at_place : (p : ℕ) → r ≡ At p → First s q e from p → NextFind s q e from r
-  no_more : r ≡ Nothing → ((k : ℕ) → from ≤ k → Occurs s q e k → ⊥) → NextFind s q e from r
+pub data NextFind (s q : List ℕ) (e from : ℕ) (r : Option ℕ) : Type 0 where
+  at_place : (p : ℕ) → r ≡ Some p → First s q e from p → NextFind s q e from r
+  no_more : r ≡ None → ((k : ℕ) → from ≤ k → Occurs s q e k → ⊥) → NextFind s q e from r

@@ -13,17 +13,12 @@ pub(crate) fn keys_good(keys: &[u64]) -> bool
     ensures { result ≡ good_keys keys.now }
 {
     let mut least: u64 = 0;
-    let mut i = 0;
-    while i < keys.len() {
-        let k = keys[i];
-        if k < least {
-            return false;
-        }
-        if k % INDEX_SPAN == NO_INDEX {
+    for key in keys {
+        let k = *key;
+        if k < least || k % INDEX_SPAN == NO_INDEX {
             return false;
         }
         least = k + 1;
-        i += 1;
     }
     true
 }

@@ -1,6 +1,7 @@
 -- String data that are accepted are published: their length bytes are a uleb128, since the fifth is below 0x10, and the text ends at the
 -- first zero. So a string has a text exactly where its bytes are not refused.
 -- Assumes nothing.
+use Rattle.std.specs.Prelude.{Option, Some, None}
 use Prim.Native.Nat.{ℕ, zero, suc, ◌+◌, ◌*◌, ◌-◌, ◌<◌, ◌≤◌}
 use native.Mathlib.Omega.{arith}
 use mathlib.Core.Path.{◌≡◌, refl, sym, ap, ◌∙◌}
@@ -15,8 +16,6 @@ use Rattle.dalvik.specs.Numbers.Leb128.{last_byte, more_bytes}
 use Rattle.dalvik.specs.Ids.{StringData}
 use Rattle.refusal.specs.Refusals.{largest_file}
 use Rattle.string_data.specs.Text.{first_zero, further, Found, none, found, text_from, after_length, string_text}
-use Rattle.string_data.specs.declared.Zero.{Zero}
-use Rattle.string_data.specs.declared.Zero.TheVariants as z
 use Rattle.string_data.proofs.Laws.{zero_here, zero_later, zero_in, text_ends, text_open, length_off, length_over, length_ends, length_more}
 use Rattle.string_data.proofs.Laws.{too_large, small_enough}
 use Rattle.string_data.proofs.Published.{Read, published, lim}
@@ -28,21 +27,21 @@ same? : (a b : ℕ) → (a ≡ b) ⊎ (a ≡ b → ⊥)
 same? a b = ⊎_elim (λ e. inl (eqb-true a b e)) (λ e. inr (eqb-false a b e)) (case (eqb a b))
 
 -- ---- the first zero: none before it, and it is one
-record One (r : Zero) (n : ℕ) : Type 0 where
+record One (r : Option ℕ) (n : ℕ) : Type 0 where
   m : ℕ
-  is : r ≡ z.After m
+  is : r ≡ Some m
   more : n ≡ 1 + m
 
-one : (r : Zero) (n : ℕ) → further r ≡ z.After n → One r n
-one (z.After m) n e = record { m = m; is = refl; more = let f : 1 + m ≡ n = cc in sym f }
-one z.Nothing n e = absurd (let f : ◌≡◌ {A = ℕ} 0 1 = cc in omega arith)
+one : (r : Option ℕ) (n : ℕ) → further r ≡ Some n → One r n
+one (Some m) n e = record { m = m; is = refl; more = let f : 1 + m ≡ n = cc in sym f }
+one None n e = absurd cc
 
 pub record Zeroed (s : List ℕ) (i n : ℕ) : Type 0 where
   pub inside : i + n < length s
   pub none_zero : (k : ℕ) → k < n → byte s (i + k) ≢ 0
   pub final_zero : byte s (i + n) ≡ 0
 
-pub zeroed : (s : List ℕ) (n i : ℕ) → first_zero s i ≡ z.After n → Zeroed s i n
+pub zeroed : (s : List ℕ) (n i : ℕ) → first_zero s i ≡ Some n → Zeroed s i n
 zeroed s zero i e =
     let l = zero_in s i 0 (sym e) in
     ⊎_elim
@@ -52,11 +51,10 @@ zeroed s zero i e =
 zeroed s (suc n) i e =
     let l = zero_in s i (suc n) (sym e) in
     ⊎_elim
-    (λ (h : byte s i ≡ 0). absurd (let f : z.After 0 ≡ z.After (suc n) = sym (zero_here s i i (omega arith) h) ∙ e in
-    let g : ◌≡◌ {A = ℕ} 0 (suc n) = cc in omega arith))
+    (λ (h : byte s i ≡ 0). absurd (let f : Some 0 ≡ Some (suc n) = sym (zero_here s i i (omega arith) h) ∙ e in cc))
     (λ (h : byte s i ≡ 0 → ⊥). let o = one (first_zero s (i + 1)) (suc n) (sym (zero_later s i i (omega arith) h) ∙ e) in
     let same : o.m ≡ n = omega (arith, o.more) in
-    let r = zeroed s n (i + 1) (o.is ∙ ap z.After same) in
+    let r = zeroed s n (i + 1) (o.is ∙ ap Some same) in
     record {
       inside = l;
       none_zero = λ k q t. ⊎_elim (λ (p : 0 < k). r.none_zero (k - 1) (omega arith) (ap (byte s) (omega arith) ∙ t))
@@ -66,17 +64,16 @@ zeroed s (suc n) i e =
     (same? (byte s i) 0)
 
 -- .. and where there is none
-lost : (r : Zero) → further r ≡ z.Nothing → r ≡ z.Nothing
-lost (z.After m) e = absurd (let f : ◌≡◌ {A = ℕ} 0 1 = cc in omega arith)
-lost z.Nothing e = refl
+lost : (r : Option ℕ) → further r ≡ None → r ≡ None
+lost (Some m) e = cc
+lost None e = refl
 
-not_here : (s : List ℕ) (i : ℕ) → first_zero s i ≡ z.Nothing → i < length s → byte s i ≡ 0 → ⊥
+not_here : (s : List ℕ) (i : ℕ) → first_zero s i ≡ None → i < length s → byte s i ≡ 0 → ⊥
 not_here s i e h q =
-    let f : z.After 0 ≡ z.Nothing = sym (zero_here s i i h q) ∙ e in
-    let g : ◌≡◌ {A = ℕ} 0 1 = cc in
-    omega arith
+    let f : ◌≡◌ {A = Option ℕ} (Some 0) None = sym (zero_here s i i h q) ∙ e in
+    cc
 
-pub no_zero : (s : List ℕ) (n i : ℕ) → first_zero s i ≡ z.Nothing → i + n < length s → byte s (i + n) ≢ 0
+pub no_zero : (s : List ℕ) (n i : ℕ) → first_zero s i ≡ None → i + n < length s → byte s (i + n) ≢ 0
 no_zero s zero i e h t = not_here s i e (omega arith) (ap (byte s) (omega arith) ∙ t)
 no_zero s (suc n) i e h t =
     let later = lost (first_zero s (i + 1)) (sym (zero_later s i i (omega arith) (not_here s i e (omega arith))) ∙ e) in
@@ -91,9 +88,9 @@ record TextFound (s : List ℕ) (i : ℕ) : Type 0 where
 text_found : (s : List ℕ) (i : ℕ) → (text_from s i).number ≡ 0 → TextFound s i
 text_found s i e = go (first_zero s i) refl
   where
-    go : (r : Zero) → first_zero s i ≡ r → TextFound s i
-    go (z.After n) f = record { n = n; is = sym (text_ends s i n (sym f)); ends = zeroed s n i f }
-    go z.Nothing f = absurd (omega (arith, ap (λ (x : Found). x.number) (text_open s i (sym f)), e))
+    go : (r : Option ℕ) → first_zero s i ≡ r → TextFound s i
+    go (Some n) f = record { n = n; is = sym (text_ends s i n (sym f)); ends = zeroed s n i f }
+    go None f = absurd (omega (arith, ap (λ (x : Found). x.number) (text_open s i (sym f)), e))
 
 -- ---- the length bytes: a number of at most five bytes that fits 32 bits
 record Numbered (s : List ℕ) (k i : ℕ) : Type 0 where

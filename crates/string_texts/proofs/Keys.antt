@@ -1,6 +1,7 @@
 -- The definitions of the texts' keys, a law for each way out of them: the strings passed have their keys, in order, and the first fault
 -- ends it; a text has an end exactly if it begins before the file's last zero; and the zero after the last start is the end of all.
 -- Assumes nothing.
+use Rattle.std.specs.Prelude.{Option, Some, None, Result, Ok, Err}
 use Prim.Native.Nat.{ℕ, zero, suc, ◌+◌, ◌*◌, ◌-◌, ◌<◌, ◌≤◌, min, max}
 use native.Mathlib.Omega.{arith}
 use native.Mathlib.Numerals.{add-one}
@@ -18,12 +19,7 @@ use Rattle.refusal.specs.declared.Refusal.{Refusal}
 use Rattle.refusal.specs.declared.Refusal.TheVariants.{StringOutside}
 use Rattle.refusal.proofs.Numbers.{numbered}
 use Rattle.byte_search.specs.First.{Either, First}
-use Rattle.string_data.specs.Text.{Found, none, found, first_zero, text_from, after_length, string_text}
-use Rattle.string_texts.specs.Starts.{text_at}
-use Rattle.string_texts.specs.declared.Start.{Start}
-use Rattle.string_texts.specs.declared.Start.TheVariants as b
-use Rattle.string_data.specs.declared.Zero.{Zero}
-use Rattle.string_data.specs.declared.Zero.TheVariants as z
+use Rattle.string_data.specs.Text.{Found, none, found, first_zero, text_from, text_at, after_length, string_text}
 use Rattle.string_data.proofs.Laws.{text_ends, text_open, small_enough}
 use Rattle.string_texts.proofs.Accepted.{zeroed, no_zero, accepted}
 use Rattle.sort_keys.proofs.Counts.{below?, same?}
@@ -50,7 +46,7 @@ module _ (s : List ℕ) (offset zeros : ℕ) (ok : Readable s zeros) where
   whole_text : (f : Found) → f ≡ after_length 5 s offset → f ≡ string_text s offset
   whole_text f e = small_enough s offset (le-ltb largest_file (length s) ok.small) f e
 
-  pub begin_refused : (r : Start) (why : Refusal) → r ≡ b.Refused why → text_at s r ≡ after_length 5 s offset → Begins (string_text s offset) r
+  pub begin_refused : (r : Result ℕ Refusal) (why : Refusal) → r ≡ Err why → text_at s r ≡ after_length 5 s offset → Begins (string_text s offset) r
   begin_refused r why q e =
       let f = whole_text (none (refusal_number why)) (ap (text_at s) (sym q) ∙ e) in
       record {
@@ -59,28 +55,28 @@ module _ (s : List ℕ) (offset zeros : ℕ) (ok : Readable s zeros) where
       }
 
   module _ (a : ℕ) (e : text_from s a ≡ after_length 5 s offset) where
-    at_of : (r : Zero) → first_zero s a ≡ r → a < zeros → Begins (string_text s offset) (b.At a)
-    at_of (z.After n) q h =
+    at_of : (r : Option ℕ) → first_zero s a ≡ r → a < zeros → Begins (string_text s offset) (Ok a)
+    at_of (Some n) q h =
         let f = whole_text (found a n) (text_ends s a n (sym q) ∙ e) in
         record { number = ap (λ (x : Found). x.number) f; place = ap (λ (x : Found). x.start) f }
-    at_of z.Nothing q h =
+    at_of None q h =
         let l = ok.last in
         let i : zeros ≤ length s = l.inside in
         absurd (no_zero s (zeros - 1 - a) a q (omega arith)
         (ap (byte s) (let p : a + (zeros - 1 - a) ≡ zeros - 1 = omega arith in p) ∙ l.here (omega arith)))
 
-    pub begin_at : a < zeros → Begins (string_text s offset) (b.At a)
+    pub begin_at : a < zeros → Begins (string_text s offset) (Ok a)
     begin_at h = at_of (first_zero s a) refl h
 
-    open_of : (r : Zero) → first_zero s a ≡ r → zeros ≤ a → Begins (string_text s offset) (b.Refused StringOutside)
-    open_of (z.After n) q h =
+    open_of : (r : Option ℕ) → first_zero s a ≡ r → zeros ≤ a → Begins (string_text s offset) (Err StringOutside)
+    open_of (Some n) q h =
         let y = zeroed s n a q in
         absurd (ok.last.none_after (a + n) (omega arith) y.inside y.final_zero)
-    open_of z.Nothing q h =
+    open_of None q h =
         let f = whole_text (none 5) (text_open s a (sym q) ∙ e) in
         record { number = ap (λ (x : Found). x.number) f; place = ap (λ (x : Found). x.start) f }
 
-    pub begin_open : zeros ≤ a → Begins (string_text s offset) (b.Refused StringOutside)
+    pub begin_open : zeros ≤ a → Begins (string_text s offset) (Err StringOutside)
     begin_open h = open_of (first_zero s a) refl h
 
 -- a text that begins does so inside the file
@@ -89,7 +85,7 @@ started s i bytes e =
     let a = accepted s i bytes e in
     omega (arith, ap (λ (x : Found). x.start) a.read.answer, a.item.inside)
 
-pub begin_small : (s : List ℕ) (i a : ℕ) (r : Start) → Bytes s → length s ≤ largest_file → r ≡ b.At a → Begins (string_text s i) r → a ≤ largest_file
+pub begin_small : (s : List ℕ) (i a : ℕ) (r : Result ℕ Refusal) → Bytes s → length s ≤ largest_file → r ≡ Ok a → Begins (string_text s i) r → a ≤ largest_file
 begin_small s i a r bytes h q g =
     omega (arith, started s i bytes (sym g.number ∙ ap start_number q), sym (ap start_place q) ∙ g.place)
 
@@ -172,7 +168,7 @@ module _ (s : List ℕ) (table : ℕ) where
 
 -- ---- one string
 module _ (s : List ℕ) (table i : ℕ) where
-  pub put_refused : (r : Start) {why : Refusal} → r ≡ b.Refused why → (o : ℕ) → o ≡ string_data_off s table i → Begins (string_text s o) r → (ws : List ℕ)
+  pub put_refused : (r : Result ℕ Refusal) {why : Refusal} → r ≡ Err why → (o : ℕ) → o ≡ string_data_off s table i → Begins (string_text s o) r → (ws : List ℕ)
       → Put s table i r ws ws
   put_refused r {why} q o e g ws =
       record {
@@ -181,10 +177,10 @@ module _ (s : List ℕ) (table i : ℕ) where
         words = λ z. absurd (nonzero why (sym (ap start_number q) ∙ z));
       }
 
-  pub put_done : (r : Start) (a o : ℕ) → o ≡ string_data_off s table i → r ≡ b.At a → Begins (string_text s o) r → (before after : List ℕ)
-      → after ≡ set before i (a * 4294967296 + i) → Put s table i (b.At a) before after
+  pub put_done : (r : Result ℕ Refusal) (a o : ℕ) → o ≡ string_data_off s table i → r ≡ Ok a → Begins (string_text s o) r → (before after : List ℕ)
+      → after ≡ set before i (a * 4294967296 + i) → Put s table i (Ok a) before after
   put_done r a o e q g before after w =
-      let begins : Begins (text_of s table i) (b.At a) = subst (λ (k : ℕ). Begins (string_text s k) (b.At a)) e (subst (Begins (string_text s o)) q g) in
+      let begins : Begins (text_of s table i) (Ok a) = subst (λ (k : ℕ). Begins (string_text s k) (Ok a)) e (subst (Begins (string_text s o)) q g) in
       record {
         begins = begins;
         long = ap length w ∙ length-set before i _;
@@ -214,7 +210,7 @@ passed_none s table n ws =
     }
 
 module _ {s : List ℕ} {table n : ℕ} {before mid : List ℕ} {last i : ℕ} (p : Passed s table n before mid (record { last = last; i = i })) where
-  pub passed_fault : i < n → {r : Start} {why : Refusal} → r ≡ b.Refused why → {after : List ℕ} → Put s table i r mid after
+  pub passed_fault : i < n → {r : (Result ℕ Refusal)} {why : Refusal} → r ≡ Err why → {after : List ℕ} → Put s table i r mid after
       → PutAll s table n r before after
   passed_fault h {r} {why} q g =
       let bad : start_number r ≡ 0 → ⊥ = λ z. nonzero why (sym (ap start_number q) ∙ z) in
@@ -227,7 +223,7 @@ module _ {s : List ℕ} {table n : ℕ} {before mid : List ℕ} {last i : ℕ} (
         words = λ z. absurd (bad z);
       }
 
-  pub passed_one : i < n → {r : Start} {a : ℕ} → r ≡ b.At a → {after : List ℕ} → Put s table i r mid after → {m : ℕ} → m ≡ max last a
+  pub passed_one : i < n → {r : (Result ℕ Refusal)} {a : ℕ} → r ≡ Ok a → {after : List ℕ} → Put s table i r mid after → {m : ℕ} → m ≡ max last a
       → Passed s table n before after (record { last = m; i = i + 1 })
   passed_one h {r} {a} q g e =
       let fine = ap start_number q in
@@ -240,7 +236,7 @@ module _ {s : List ℕ} {table n : ℕ} {before mid : List ℕ} {last i : ℕ} (
         words = λ l z. g.words fine ∙ ap (λ (w : List ℕ). set w i (text_key s table i)) (p.words l z) ∙ keys_more s table (length before) i (omega arith);
       }
 
-  pub passed_all : n ≤ i → PutAll s table n (b.At last) before mid
+  pub passed_all : n ≤ i → PutAll s table n (Ok last) before mid
   passed_all h =
       let same : i ≡ n = omega (arith, p.few) in
       record {

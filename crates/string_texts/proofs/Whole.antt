@@ -1,5 +1,6 @@
 -- The ways out of `text_keys`, each with its fault: none before it applies, and only without one are there keys.
 -- Assumes nothing.
+use Rattle.std.specs.Prelude.{Result, Ok, Err}
 use Prim.Native.Nat.{ℕ, ◌-◌, ◌<◌, ◌≤◌}
 use native.Mathlib.Omega.{arith}
 use mathlib.Core.Path.{◌≡◌, sym, ap, subst, ◌∙◌}
@@ -19,12 +20,8 @@ use Rattle.refusal.specs.declared.Refusal.TheVariants as r
 use Rattle.refusal.proofs.Numbers.{numbered}
 use Rattle.tinydex.specs.declared.Table.{Table}
 use Rattle.string_texts.specs.Texts.{or_fault}
-use Rattle.string_texts.specs.declared.Start.{Start}
-use Rattle.string_texts.specs.declared.Start.TheVariants as b
 use Rattle.sort_keys.specs.Sorted.{sorted}
 use Rattle.sort_keys.proofs.Sorted.{length_sorted}
-use Rattle.string_texts.specs.declared.Texts.{Texts}
-use Rattle.string_texts.specs.declared.Texts.TheVariants as t
 use Rattle.string_texts.specs.Texts.{fault_from, text_keys_of, texts_fault, GivesTexts}
 use Rattle.string_texts.specs.Steps.{start_number, greatest_start, Finished}
 use Rattle.string_texts.specs.Steps.Finished.{short, whole}
@@ -44,7 +41,7 @@ module _ (s : List ℕ) (strings : Table) (before : List ℕ) where
   fault = texts_fault s strings (length before)
 
   gives_refused : (why : Refusal) → refusal_number why ≡ fault → (after : List ℕ) → after ≡ zeros (length before)
-      → GivesTexts s strings (t.Refused why) before after
+      → GivesTexts s strings (Err why) before after
   gives_refused why e after z =
       record {
         number = e;
@@ -53,12 +50,12 @@ module _ (s : List ℕ) (strings : Table) (before : List ℕ) where
       }
 
   pub gives_large : is_too_large (length s) ≡ true → (after : List ℕ) → after ≡ zeros (length before)
-      → GivesTexts s strings (t.Refused r.FileTooLarge) before after
+      → GivesTexts s strings (Err r.FileTooLarge) before after
   unfolding texts_fault
   gives_large e after z = gives_refused r.FileTooLarge (rw e) after z
 
   module _ (small : is_too_large (length s) ≡ false) where
-    pub gives_none : strings.size ≡ 0 → (after : List ℕ) → after ≡ zeros (length before) → GivesTexts s strings (t.Until 0) before after
+    pub gives_none : strings.size ≡ 0 → (after : List ℕ) → after ≡ zeros (length before) → GivesTexts s strings (Ok 0) before after
     unfolding texts_fault fault_from sorted text_keys_of
     gives_none e after z =
         let no : 0 ≡ fault = rw (small, le-ltb 0 strings.size (omega arith), e, le-ltb (length before) 0 (omega arith)) in
@@ -69,7 +66,7 @@ module _ (s : List ℕ) (strings : Table) (before : List ℕ) where
         }
 
     pub gives_outside : 0 < strings.size → length s < item strings.off string_id_size strings.size → (after : List ℕ) → after ≡ zeros (length before)
-        → GivesTexts s strings (t.Refused r.TableOutside) before after
+        → GivesTexts s strings (Err r.TableOutside) before after
     unfolding texts_fault
     gives_outside p h after z = gives_refused r.TableOutside (rw (small, lt-ltb _ _ p, lt-ltb _ _ h)) after z
 
@@ -81,8 +78,8 @@ module _ (s : List ℕ) (strings : Table) (before : List ℕ) where
       unfolding texts_fault
       strings_fault = rw (small, lt-ltb _ _ p, le-ltb _ _ h)
 
-      pub gives_fault : (why : Refusal) {x : Start} → x ≡ b.Refused why → start_number x ≡ found → (after : List ℕ) → after ≡ zeros (length before)
-          → GivesTexts s strings (t.Refused why) before after
+      pub gives_fault : (why : Refusal) {x : (Result ℕ Refusal)} → x ≡ Err why → start_number x ≡ found → (after : List ℕ) → after ≡ zeros (length before)
+          → GivesTexts s strings (Err why) before after
       gives_fault why q e after z =
           let same : refusal_number why ≡ found = sym (ap start_number q) ∙ e in
           gives_refused why (sym (strings_fault ∙ rw (← same, numbered why))) after z
@@ -91,11 +88,11 @@ module _ (s : List ℕ) (strings : Table) (before : List ℕ) where
         room_fault : fault ≡ cond (ltb (length before) strings.size) 4 0
         room_fault = strings_fault ∙ rw fine
 
-        pub gives_finished : {last : ℕ} {x : Texts} (mid after : List ℕ) → Bytes s
+        pub gives_finished : {last : ℕ} {x : (Result ℕ Refusal)} (mid after : List ℕ) → Bytes s
             → (strings.size ≤ length before → mid ≡ padded (length before) (text_keys_of s strings.off strings.size)) → length mid ≡ length before
             → last ≡ greatest_start s strings.off strings.size → Finished s last strings.size x mid after → GivesTexts s strings x before after
         gives_finished mid after bytes ks long e (short l q z) =
-            subst (λ (y : Texts). GivesTexts s strings y before after) (sym q)
+            subst (λ (y : Result ℕ Refusal). GivesTexts s strings y before after) (sym q)
             (gives_refused r.LentTooShort (sym (room_fault ∙ rw (lt-ltb (length before) strings.size (omega arith)))) after (z ∙ ap zeros long))
         gives_finished mid after bytes ks long e (whole a l q f w) =
             let keys = text_keys_of s strings.off strings.size in
@@ -107,7 +104,7 @@ module _ (s : List ℕ) (strings : Table) (before : List ℕ) where
             w
             ∙ rw (first, is)
             (replaced (length before) strings.size keys (sorted keys) n (length_sorted keys ∙ n)) in
-            subst (λ (y : Texts). GivesTexts s strings y before after) (sym q)
+            subst (λ (y : Result ℕ Refusal). GivesTexts s strings y before after) (sym q)
             (record {
               number = sym none;
               covers = λ _. all_covered s strings.off strings.size a bytes fine (rw e at f);

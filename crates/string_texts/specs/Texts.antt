@@ -1,15 +1,14 @@
 -- The texts of a file's strings: a key for each string, of the place where its text begins and its index, sorted. Faults in
 -- order: 1; 3; those of the strings, in the order of their indices; 4.
 -- Assumes nothing.
-use Rattle.std.specs.Prelude.{ℕ, zero, suc, ◌+◌, ◌*◌, ◌^◌, ◌≤◌, ◌<◌, ◌≡◌, cond, ◌&&◌, List, [], ◌∷◌, ◌++◌, length, ltb, eqb}
+use Rattle.refusal.specs.declared.Refusal.{Refusal}
+use Rattle.std.specs.Prelude.{ℕ, zero, suc, ◌+◌, ◌*◌, ◌^◌, ◌≤◌, ◌<◌, ◌≡◌, cond, ◌&&◌, List, [], ◌∷◌, ◌++◌, length, ltb, eqb, Result, Ok, Err}
 use Rattle.words.specs.Padded.{padded}
 use Rattle.dalvik.specs.Ids.{item, string_id_size, string_data_off}
 use Rattle.refusal.specs.Refusals.{refusal_number, is_too_large}
 use Rattle.tinydex.specs.declared.Table.{Table}
 use Rattle.string_data.specs.Text.{Found, string_text}
 use Rattle.sort_keys.specs.Sorted.{sorted}
-use Rattle.string_texts.specs.declared.Texts.{Texts}
-use Rattle.string_texts.specs.declared.Texts.TheVariants as t
 
 -- the first of two faults, by their numbers; 0 is none
 abbrev pub or_fault : ℕ → ℕ → ℕ
@@ -44,13 +43,13 @@ texts_fault s strings lent =
     (or_fault (fault_from s strings.off strings.size 0) (cond (ltb lent strings.size) 4 0)))
 
 -- the number of an answer, and the place after the texts, 0 for a refusal
-abbrev pub texts_number : Texts → ℕ
-texts_number (t.Until e) = 0
-texts_number (t.Refused r) = refusal_number r
+abbrev pub texts_number : Result ℕ Refusal → ℕ
+texts_number (Ok e) = 0
+texts_number (Err r) = refusal_number r
 
-abbrev pub texts_end : Texts → ℕ
-texts_end (t.Until e) = e
-texts_end (t.Refused r) = 0
+abbrev pub texts_end : Result ℕ Refusal → ℕ
+texts_end (Ok e) = e
+texts_end (Err r) = 0
 
 -- none of the texts of n strings reaches past e, a place in the file. Which place is left to the program
 pub record Covers (s : List ℕ) (table n e : ℕ) : Type 0 where
@@ -58,7 +57,7 @@ pub record Covers (s : List ℕ) (table n e : ℕ) : Type 0 where
   pub covers : (i : ℕ) → i < n → (text_of s table i).start + (text_of s table i).len ≤ e
 
 -- the answer, and in the lent words the sorted keys with zeros after them: a refusal has none
-pub record GivesTexts (s : List ℕ) (strings : Table) (r : Texts) (before after : List ℕ) : Type 0 where
+pub record GivesTexts (s : List ℕ) (strings : Table) (r : Result ℕ Refusal) (before after : List ℕ) : Type 0 where
   pub number : texts_number r ≡ texts_fault s strings (length before)
   pub covers : texts_number r ≡ 0 → Covers s strings.off strings.size (texts_end r)
   pub keys :

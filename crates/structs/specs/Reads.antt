@@ -1,12 +1,8 @@
 -- What a read answers: the little-endian number, in which a byte past the file's end is 0; or, in the form with a case of its own for it,
 -- the number where all its bytes are inside the file.
 -- Assumes nothing.
-use Rattle.std.specs.Prelude.{ℕ, ◌+◌, ◌<◌, ◌≡◌, List, cond, length, leb}
+use Rattle.std.specs.Prelude.{ℕ, ◌+◌, ◌<◌, ◌≡◌, List, cond, length, leb, Option, Some, None}
 use Rattle.dalvik.specs.Numbers.{byte, le16, le32}
-use Rattle.structs.specs.declared.Read16.{Read16}
-use Rattle.structs.specs.declared.Read32.{Read32}
-use Rattle.structs.specs.declared.Read16.TheVariants as v16
-use Rattle.structs.specs.declared.Read32.TheVariants as v32
 
 -- r is the byte at i
 pub record ByteAt (s : List ℕ) (i r : ℕ) : Type 0 where
@@ -18,8 +14,8 @@ pub record HalfAt (s : List ℕ) (i r : ℕ) : Type 0 where
   pub is : r ≡ le16 s i
   pub small : r < 65536
 
-unfoldable pub read16 : List ℕ → ℕ → Read16
-read16 s i = cond (leb (i + 2) (length s)) (v16.Value (le16 s i)) v16.Outside
+unfoldable pub read16 : List ℕ → ℕ → Option ℕ
+read16 s i = cond (leb (i + 2) (length s)) (Some (le16 s i)) None
 
-unfoldable pub read32 : List ℕ → ℕ → Read32
-read32 s i = cond (leb (i + 4) (length s)) (v32.Value (le32 s i)) v32.Outside
+unfoldable pub read32 : List ℕ → ℕ → Option ℕ
+read32 s i = cond (leb (i + 4) (length s)) (Some (le32 s i)) None

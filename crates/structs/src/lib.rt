@@ -6,18 +6,6 @@ ghost use Rattle.std.specs.Prelude.{◌≡◌, ◌<◌};
 ghost use Rattle.dalvik.specs.Numbers.{le32};
 ghost use Rattle.structs.specs.Reads.{ByteAt, HalfAt, read16, read32};
 
-#[derive(Clone, Copy)]
-pub enum Read16 {
-    Value(u16),
-    Outside,
-}
-
-#[derive(Clone, Copy)]
-pub enum Read32 {
-    Value(u32),
-    Outside,
-}
-
 // The byte at a place, 0 past the end.
 pub fn byte_at(s: &[u8], at: usize) -> u32
     ensures { ByteAt s.now at result }
@@ -26,6 +14,7 @@ pub fn byte_at(s: &[u8], at: usize) -> u32
 }
 
 // The number of 2 bytes at a place, zeros past the end.
+#[tactic(auto, unfolding(dalvik::specs::Numbers::le16))]
 pub fn u16_at(s: &[u8], at: usize) -> u32
     ensures { HalfAt s.now at result }
 {
@@ -36,6 +25,7 @@ pub fn u16_at(s: &[u8], at: usize) -> u32
 }
 
 // The number of 4 bytes at a place, zeros past the end, a byte at a time.
+#[tactic(auto, unfolding(dalvik::specs::Numbers::le32, dalvik::specs::Numbers::le16))]
 fn u32_bytewise(s: &[u8], at: usize) -> u32
     ensures { result ≡ le32 s.now at }
 {
@@ -51,39 +41,42 @@ fn u32_bytewise(s: &[u8], at: usize) -> u32
 }
 
 // The number of 2 bytes at a place.
-pub fn read_u16(s: &[u8], at: usize) -> Read16
+#[tactic(auto, unfolding(crate::specs::Reads::read16))]
+pub fn read_u16(s: &[u8], at: usize) -> Option<u16>
     ensures { result ≡ read16 s.now at }
 {
     let n = s.len();
     if n < 2 {
-        return Read16::Outside;
+        return None;
     }
     if n - 2 < at {
-        return Read16::Outside;
+        return None;
     }
-    Read16::Value(u16_at(s, at) as u16)
+    Some(u16_at(s, at) as u16)
 }
 
 // The number of 4 bytes at a place.
-pub fn read_u32(s: &[u8], at: usize) -> Read32
+#[tactic(auto, unfolding(crate::specs::Reads::read32))]
+pub fn read_u32(s: &[u8], at: usize) -> Option<u32>
     ensures { result ≡ read32 s.now at }
 {
     let n = s.len();
     if n < 4 {
-        return Read32::Outside;
+        return None;
     }
     if n - 4 < at {
-        return Read32::Outside;
+        return None;
     }
-    Read32::Value(u32_bytewise(s, at))
+    Some(u32_bytewise(s, at))
 }
 
 // The number of 4 bytes at a place, zeros past the end. Where all of them are inside, one test tells.
+#[tactic(auto, unfolding(crate::specs::Reads::read32))]
 pub fn u32_at(s: &[u8], at: usize) -> u32
     ensures { result ≡ le32 s.now at }
 {
     match read_u32(s, at) {
-        Read32::Value(v) => v,
-        Read32::Outside => u32_bytewise(s, at),
+        Some(v) => v,
+        None => u32_bytewise(s, at),
     }
 }

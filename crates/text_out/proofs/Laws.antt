@@ -4,6 +4,8 @@
 --     text_outcome    text_out, text_room
 --     decimal         decimal_is, decimal_short
 -- Assumes nothing.
+use Rattle.refusal.specs.declared.Refusal.{Refusal}
+use Rattle.std.specs.Prelude.{Result, Ok, Err}
 use Prim.Native.Nat.{ℕ, zero, suc, ◌+◌, ◌-◌, ◌/◌, ◌%◌, ◌^◌, ◌≤◌, ◌<◌, min}
 use native.Mathlib.Nat.{pow-le-pow_right, lt_of_lt_of_le, not-le_of_lt, le_trans, add-zero}
 use native.Mathlib.Omega.{arith}
@@ -19,8 +21,6 @@ use Rattle.words.specs.Padded.{zeros}
 use Rattle.words.proofs.Padded.{padded_none, sets_zeros}
 use Rattle.words.proofs.Shared.{case, cond_elim}
 use Rattle.refusal.specs.declared.Refusal.TheVariants.{LentTooShort}
-use Rattle.refusal.specs.declared.Answer.{Answer}
-use Rattle.refusal.specs.declared.Answer.TheVariants.{Done, Refused}
 use Rattle.refusal.specs.Outcomes.{Gives}
 use Rattle.text_out.specs.Text.{reach, decimal, feed, text_outcome}
 use Rattle.text_out.specs.Write.{place_after, Writes, end_at, Ends}
@@ -106,14 +106,14 @@ module _ {a : List ℕ} {p : ℕ} {b : List ℕ} {end : ℕ} (line : Writes a p 
   unfolding place_after
   place = line.place
 
-  pub ends_fit : end ≤ length b → Ends (end_at a p) (Done end) b
+  pub ends_fit : end ≤ length b → Ends (end_at a p) (Ok end) b
   unfolding end_at
   ends_fit h =
       let n = writes_length line in
       let l : p < length a = omega (arith, place) in
       rw (lt-ltb p (length a) l) (record { number = refl; count = omega (arith, place); bytes = line.written })
 
-  pub ends_over : (after : List ℕ) → length b < end → after ≡ zeros (length b) → Ends (end_at a p) (Refused LentTooShort) after
+  pub ends_over : (after : List ℕ) → length b < end → after ≡ zeros (length b) → Ends (end_at a p) (Err LentTooShort) after
   unfolding end_at
   ends_over after h z =
       let n = writes_length line in
@@ -137,7 +137,7 @@ module _ (whole text : List ℕ) {a b : List ℕ} {p : ℕ} (z : a ≡ zeros (le
   long : length (text ++ feed) ≡ length text + 1
   long = length-append text feed
 
-  fits : {r : Answer} {c : List ℕ} → length (text ++ feed) ≤ length whole → Ends (end_at b p) r c
+  fits : {r : (Result ℕ Refusal)} {c : List ℕ} → length (text ++ feed) ≤ length whole → Ends (end_at b p) r c
       → Gives (text_outcome (text ++ feed) (length whole)) r whole c
   unfolding text_outcome end_at
   fits h e =
@@ -152,7 +152,7 @@ module _ (whole text : List ℕ) {a b : List ℕ} {p : ℕ} (z : a ≡ zeros (le
         words = f.bytes ∙ (w ∙ sets_zeros (length whole) (text ++ feed) z h);
       })
 
-  over : {r : Answer} {c : List ℕ} → length whole < length (text ++ feed) → Ends (end_at b p) r c
+  over : {r : (Result ℕ Refusal)} {c : List ℕ} → length whole < length (text ++ feed) → Ends (end_at b p) r c
       → Gives (text_outcome (text ++ feed) (length whole)) r whole c
   unfolding text_outcome end_at
   over h e =
@@ -165,7 +165,7 @@ module _ (whole text : List ℕ) {a b : List ℕ} {p : ℕ} (z : a ≡ zeros (le
         words = f.bytes ∙ (ap zeros (n ∙ lent) ∙ sym (padded_none (length whole)));
       })
 
-  pub text_out : {r : Answer} {c : List ℕ} → Ends (end_at b p) r c → Gives (text_outcome (text ++ feed) (length whole)) r whole c
+  pub text_out : {r : (Result ℕ Refusal)} {c : List ℕ} → Ends (end_at b p) r c → Gives (text_outcome (text ++ feed) (length whole)) r whole c
   text_out e =
       ⊎_elim
       (λ t. fits (leb-true _ _ t) e)

@@ -1,9 +1,9 @@
 -- What the writers leave in lent bytes, whatever stands there and wherever they write.
 -- Assumes nothing.
-use Rattle.std.specs.Prelude.{ℕ, ◌+◌, min, ◌≡◌, List, [], ◌∷◌, cond, length, set, ltb}
+use Rattle.refusal.specs.declared.Refusal.{Refusal}
+use Rattle.std.specs.Prelude.{ℕ, ◌+◌, min, ◌≡◌, List, [], ◌∷◌, cond, length, set, ltb, Result}
 use Rattle.std.proofs.lemmas.List.Edits.{sets}
 use Rattle.words.specs.Padded.{zeros}
-use Rattle.refusal.specs.declared.Answer.{Answer}
 use Rattle.refusal.specs.Refusals.{answer_number, answer_count}
 
 -- the place after bytes that are written from a place on, of room bytes: one after the last where they pass it
@@ -29,7 +29,7 @@ end_at bytes at =
     (record { number = 0; count = at + 1; bytes = set bytes at 10 })
     (record { number = 4; count = 0; bytes = zeros (length bytes) })
 
-pub record Ends (e : End) (r : Answer) (after : List ℕ) : Type 0 where
+pub record Ends (e : End) (r : Result ℕ Refusal) (after : List ℕ) : Type 0 where
   pub number : answer_number r ≡ e.number
   pub count : answer_count r ≡ e.count
   pub bytes : after ≡ e.bytes

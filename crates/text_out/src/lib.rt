@@ -6,7 +6,7 @@ ghost use Rattle.std.specs.Prelude.{[], ◌∷◌, ◌++◌};
 ghost use Rattle.text_out.specs.Text.{decimal};
 ghost use Rattle.text_out.specs.Write.{Writes, end_at, Ends};
 
-use refusal::{Answer, Refusal};
+use refusal::Refusal;
 
 // A byte at a place, and the place after it. Past the end nothing is written, and the place is one after the end.
 fn put_byte(out: &mut [u8], at: usize, b: u8) -> usize
@@ -24,10 +24,8 @@ pub fn put(out: &mut [u8], at: usize, bytes: &[u8]) -> usize
     ensures { Writes out.old at bytes.now out.new result }
 {
     let mut p = at;
-    let mut i = 0;
-    while i < bytes.len() {
-        p = put_byte(out, p, bytes[i]);
-        i += 1;
+    for b in bytes {
+        p = put_byte(out, p, *b);
     }
     p
 }
@@ -50,13 +48,13 @@ pub fn put_named(out: &mut [u8], at: usize, name: &[u8], n: u64) -> usize
 }
 
 // A line feed at the text's end, and the answer: refused where that lies past the lent bytes.
-pub fn end_line(out: &mut [u8], at: usize) -> Answer
+pub fn end_line(out: &mut [u8], at: usize) -> Result<usize, Refusal>
     ensures { Ends (end_at out.old at) result out.new }
 {
     let end = put(out, at, b"\n");
     if out.len() < end {
-        words::clear_bytes(out);
-        return Answer::Refused(Refusal::LentTooShort);
+        words::clear(out);
+        return Err(Refusal::LentTooShort);
     }
-    Answer::Done(end)
+    Ok(end)
 }

@@ -7,7 +7,7 @@ ghost use Rattle.groups.specs.Built.{group_words, Gives};
 ghost use Rattle.type_locator.specs.Built.{outcome};
 
 use groups::{Layout, Width};
-use refusal::Answer;
+use refusal::Refusal;
 use tinydex::DexHeader;
 
 // The type ids grouped by descriptor_idx, below the number of strings. The answer's count is that of the grouped type ids.
@@ -16,7 +16,7 @@ pub fn build_map(
     header: DexHeader,
     str_offsets: &mut [u32],
     type_idxs: &mut [u32],
-) -> Answer
+) -> Result<usize, Refusal>
     ensures gives { let before = group_words str_offsets.old type_idxs.old in
         let after = group_words str_offsets.new type_idxs.new in
         Gives (outcome s.now header before) result before after }

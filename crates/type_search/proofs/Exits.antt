@@ -1,5 +1,6 @@
 -- The ways out of type search. The lent words are first cleared: cs and co are the cleared words of the strings and of the types.
 -- Assumes nothing.
+use Rattle.std.specs.Prelude.{Option, Some, None, Result, Ok, Err}
 use Prim.Native.Nat.{ℕ, ◌≤◌, ◌<◌}
 use native.Mathlib.Omega.{arith}
 use mathlib.Core.Path.{◌≡◌, ap, sym, subst, ◌∙◌}
@@ -10,15 +11,11 @@ use Rattle.words.specs.Padded.{zeros}
 use Rattle.words.proofs.Padded.{length_padded}
 use Rattle.refusal.specs.declared.Refusal.{Refusal}
 use Rattle.refusal.specs.declared.Refusal.TheVariants.{LentTooShort}
-use Rattle.refusal.specs.declared.Answer.{Answer}
-use Rattle.refusal.specs.declared.Answer.TheVariants.{Done, Refused}
 use Rattle.refusal.specs.Refusals.{refusal_number}
 use Rattle.groups.specs.Built.{GroupWords}
 use Rattle.word_set.specs.Sets.{SetOf}
 use Rattle.word_set.specs.Found.{Found}
 use Rattle.word_set.specs.Steps.{Whole, Matched}
-use Rattle.word_set.specs.declared.Insertion.{Insertion}
-use Rattle.word_set.specs.declared.Insertion.TheVariants.{Held, Full}
 use Rattle.word_set.proofs.Sets.{set_empty}
 use Rattle.word_set.proofs.Collected.{padded_take}
 use Rattle.word_set.proofs.Found.{found_refused, found_none, found_done, found_over, found_cleared, exit_short, exit_all, zeros_length}
@@ -29,7 +26,7 @@ use Rattle.type_search.specs.Types.{TypeFound, type_words, or_short, Searched}
 use Rattle.type_search.proofs.Types.{types_found, all_types, short_fault, short_four, short_none}
 
 -- what a search that succeeded left at the front of its words
-module _ {P : ℕ → Type 0} {fault : ℕ} {cs cs' : List ℕ} {r : Answer} (f : Found P fault r cs cs') (n : ℕ) (d : r ≡ Done n) where
+module _ {P : ℕ → Type 0} {fault : ℕ} {cs cs' : List ℕ} {r : (Result ℕ Refusal)} (f : Found P fault r cs cs') (n : ℕ) (d : r ≡ Ok n) where
   whole : Whole P n cs cs'
   whole = found_done n r d f
 
@@ -55,7 +52,7 @@ module _ {P : ℕ → Type 0} {fault : ℕ} {cs cs' : List ℕ} {r : Answer} (f 
 
 module _ (w : Area) (q : List ℕ) (table : GroupWords) (strings out cs co : List ℕ) (zs : cs ≡ zeros (length strings)) (zo : co ≡ zeros (length out)) where
   pub exit_fault : (why : Refusal) → refusal_number why ≡ search_fault (length w.file) 0 (length q) w.keys
-      → Searched w q table (Refused why) (type_words strings out) (type_words cs co)
+      → Searched w q table (Err why) (type_words strings out) (type_words cs co)
   exit_fault why h =
       let o = owners_listed w q in
       record {
@@ -67,7 +64,7 @@ module _ (w : Area) (q : List ℕ) (table : GroupWords) (strings out cs co : Lis
       }
 
   module _ (z : 0 ≡ search_fault (length w.file) 0 (length q) w.keys) where
-    pub exit_empty : length q ≡ 0 → Searched w q table (Done 0) (type_words strings out) (type_words cs co)
+    pub exit_empty : length q ≡ 0 → Searched w q table (Ok 0) (type_words strings out) (type_words cs co)
     exit_empty h = record {
       strings = [];
       owners = set_empty (λ x o. omega (arith, o.asked));
@@ -77,8 +74,8 @@ module _ (w : Area) (q : List ℕ) (table : GroupWords) (strings out cs co : Lis
       cleared = zs;
     }
 
-    pub exit_strings : {fault : ℕ} {cs' : List ℕ} {r : Answer} → Found (Owns w q) fault r cs cs' → 0 ≡ fault → (why : Refusal) → r ≡ Refused why
-        → Searched w q table (Refused LentTooShort) (type_words strings out) (type_words cs' co)
+    pub exit_strings : {fault : ℕ} {cs' : List ℕ} {r : (Result ℕ Refusal)} → Found (Owns w q) fault r cs cs' → 0 ≡ fault → (why : Refusal) → r ≡ Err why
+        → Searched w q table (Err LentTooShort) (type_words strings out) (type_words cs' co)
     exit_strings {fault} {cs'} {r} f k why h =
         let o = owners_listed w q in
         let l : length cs ≡ length strings = zeros_length (length strings) cs zs in
@@ -92,8 +89,8 @@ module _ (w : Area) (q : List ℕ) (table : GroupWords) (strings out cs co : Lis
           cleared = found_cleared why r h f ∙ ap zeros l;
         }
 
-    module _ {k : ℕ} {cs' : List ℕ} {r : Answer} (f : Found (Owns w q) k r cs cs') (n : ℕ) (d : r ≡ Done n) (cs'' : List ℕ) (zs'' : cs'' ≡ zeros (length cs')) (kept : length cs' ≡ length cs)
-        {co' : List ℕ} {t : Insertion} (m : Matched (TypesOf table (take n cs')) co co' t) where
+    module _ {k : ℕ} {cs' : List ℕ} {r : (Result ℕ Refusal)} (f : Found (Owns w q) k r cs cs') (n : ℕ) (d : r ≡ Ok n) (cs'' : List ℕ) (zs'' : cs'' ≡ zeros (length cs')) (kept : length cs' ≡ length cs)
+        {co' : List ℕ} {t : (Option ℕ)} (m : Matched (TypesOf table (take n cs')) co co' t) where
       none : 0 ≡ or_short (search_fault (length w.file) 0 (length q) w.keys) (length strings) (take n cs')
       none =
           let l : length cs ≡ length strings = zeros_length (length strings) cs zs in
@@ -105,8 +102,8 @@ module _ (w : Area) (q : List ℕ) (table : GroupWords) (strings out cs co : Lis
       types : Matched (TypeFound w q table) co co' t
       types = all_types table w q (take n cs') (held_set f n d) m
 
-      pub exit_types : (after : List ℕ) → t ≡ Full → length co' ≡ length co → after ≡ zeros (length co')
-          → Searched w q table (Refused LentTooShort) (type_words strings out) (type_words cs'' after)
+      pub exit_types : (after : List ℕ) → t ≡ None → length co' ≡ length co → after ≡ zeros (length co')
+          → Searched w q table (Err LentTooShort) (type_words strings out) (type_words cs'' after)
       exit_types after h j y = record {
         strings = take n cs';
         owners = held_set f n d;
@@ -114,7 +111,7 @@ module _ (w : Area) (q : List ℕ) (table : GroupWords) (strings out cs co : Lis
         cleared = cleared;
       }
 
-      pub exit_done : (i : ℕ) → t ≡ Held i → Searched w q table (Done i) (type_words strings out) (type_words cs'' co')
+      pub exit_done : (i : ℕ) → t ≡ Some i → Searched w q table (Ok i) (type_words strings out) (type_words cs'' co')
       exit_done i h = record {
         strings = take n cs';
         owners = held_set f n d;

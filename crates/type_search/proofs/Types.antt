@@ -1,6 +1,7 @@
 -- Types of strings: those of a list of strings are those of its first string and of the others; and the types found are those of
 -- the strings found.
 -- Assumes nothing.
+use Rattle.std.specs.Prelude.{Option, Some, None}
 use Prim.Native.Nat.{ℕ, ◌+◌, ◌≤◌, ◌<◌}
 use native.Mathlib.Omega.{arith}
 use mathlib.Core.Path.{◌≡◌, sym, subst}
@@ -16,8 +17,6 @@ use Rattle.groups.specs.Stretch.{stretch_of}
 use Rattle.groups.specs.Built.{GroupWords}
 use Rattle.word_set.specs.Sets.{In, SetOf}
 use Rattle.word_set.specs.Steps.{Matched}
-use Rattle.word_set.specs.declared.Insertion.{Insertion}
-use Rattle.word_set.specs.declared.Insertion.TheVariants.{Held, Full}
 use Rattle.word_set.proofs.Sets.{in_none, in_here, in_cons, in_cases, in_drop_here, in_drop_later, in_drop_cases, in_drop_none, Listed, set_none}
 use Rattle.word_set.proofs.Sets.{set_same, set_union}
 use Rattle.index_set.specs.Marked.{SetWords, AddedAll}
@@ -49,18 +48,18 @@ module _ (table : GroupWords) where
     types_later : (x : ℕ) → TypesOf table (drop (i + 1) strings) x → TypesOf table (drop i strings) x
     types_later x t = record { string = t.string; listed = in_drop_later strings i h t.string t.listed; among = t.among }
 
-    module _ {room n : ℕ} {w after : SetWords} {r : Insertion} (c : Marking (TypesOf table strings) (TypesOf table (drop i strings)) room n w)
+    module _ {room n : ℕ} {w after : SetWords} {r : (Option ℕ)} (c : Marking (TypesOf table strings) (TypesOf table (drop i strings)) room n w)
         (group : List ℕ) (g : group ≡ stretch_of table.offs table.ids (get_or strings i 0)) (add : AddedAll group n w after r) where
       in_group : (x : ℕ) → In x group → TypesOf table (drop i strings) x
       in_group x m = types_here x (subst (In x) g m)
 
-      pub turn : (m : ℕ) → r ≡ Held m → Marking (TypesOf table strings) (TypesOf table (drop (i + 1) strings)) room m after
+      pub turn : (m : ℕ) → r ≡ Some m → Marking (TypesOf table strings) (TypesOf table (drop (i + 1) strings)) room m after
       turn m e =
           mark_all c types_later in_group m
           (λ x t. ⊎_elim (λ (k : In x (stretch_of table.offs table.ids (get_or strings i 0))). inl (subst (In x) (sym g) k))
           (λ (k : TypesOf table (drop (i + 1) strings) x). inr k) (types_cases x t)) add e
 
-      pub no_room : r ≡ Full → (l : List ℕ) → SetOf (TypesOf table strings) l → room < length l
+      pub no_room : r ≡ None → (l : List ℕ) → SetOf (TypesOf table strings) l → room < length l
       no_room e = mark_all_full c in_group add e
 
   types_listed : (strings : List ℕ) → Listed (TypesOf table strings)
@@ -86,7 +85,7 @@ module _ (table : GroupWords) where
       found_of : (x : ℕ) → TypeFound w q table x → TypesOf table strings x
       found_of x t = record { string = t.string; listed = o.complete t.string t.owns; among = t.among }
 
-      pub all_types : {out out' : List ℕ} {r : Insertion} → Matched (TypesOf table strings) out out' r → Matched (TypeFound w q table) out out' r
+      pub all_types : {out out' : List ℕ} {r : (Option ℕ)} → Matched (TypesOf table strings) out out' r → Matched (TypeFound w q table) out out' r
       all_types m = matched_same of_found found_of m
 
     pub types_found : Listed (TypeFound w q table)

@@ -1,8 +1,8 @@
 -- What type search finds: SPEC, Searches (`locate` of type_locator.rs).
 -- Assumes nothing.
-use Rattle.std.specs.Prelude.{ℕ, ◌≡◌, cond, List, length, eqb, ltb}
+use Rattle.refusal.specs.declared.Refusal.{Refusal}
+use Rattle.std.specs.Prelude.{ℕ, ◌≡◌, cond, List, length, eqb, ltb, Result}
 use Rattle.words.specs.Padded.{zeros}
-use Rattle.refusal.specs.declared.Answer.{Answer}
 use Rattle.groups.specs.Built.{GroupWords}
 use Rattle.groups.specs.Stretch.{stretch_of}
 use Rattle.word_set.specs.Sets.{In, SetOf}
@@ -28,7 +28,7 @@ abbrev pub or_short : ℕ → ℕ → List ℕ → ℕ
 or_short fault room xs = cond (eqb fault 0) (cond (ltb room (length xs)) 4 0) fault
 
 -- the answer and the types; and the words lent for the strings found are zero
-pub record Searched (w : Area) (q : List ℕ) (table : GroupWords) (r : Answer) (before after : TypeWords) : Type 0 where
+pub record Searched (w : Area) (q : List ℕ) (table : GroupWords) (r : Result ℕ Refusal) (before after : TypeWords) : Type 0 where
   pub strings : List ℕ
   pub owners : SetOf (Owns w q) strings
   pub types : Found (TypeFound w q table) (or_short (search_fault (length w.file) 0 (length q) w.keys) (length before.strings) strings) r

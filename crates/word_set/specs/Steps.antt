@@ -1,11 +1,9 @@
 -- What the inner steps of the searches and of the name filter yield: a test's answer, and a set that was collected in cleared words, before
 -- faults are counted in.
 -- Assumes nothing.
-use Rattle.std.specs.Prelude.{ℕ, ◌≤◌, ◌<◌, ◌≡◌, Bool, true, false, List, length}
+use Rattle.std.specs.Prelude.{ℕ, ◌≤◌, ◌<◌, ◌≡◌, Bool, true, false, List, length, Option, Some, None}
 use Rattle.words.specs.Padded.{padded}
 use Rattle.word_set.specs.Sets.{SetOf}
-use Rattle.word_set.specs.declared.Insertion.{Insertion}
-use Rattle.word_set.specs.declared.Insertion.TheVariants.{Held, Full}
 
 -- r says whether P holds
 pub record Decides (P : Type 0) (r : Bool) : Type 0 where
@@ -21,6 +19,6 @@ pub record Whole (P : ℕ → Type 0) (n : ℕ) (before after : List ℕ) : Type
   pub words : after ≡ padded (length before) list
 
 -- .. or it has more than these
-pub data Matched (P : ℕ → Type 0) (before after : List ℕ) (r : Insertion) : Type 0 where
-  all : (n : ℕ) → r ≡ Held n → Whole P n before after → Matched P before after r
-  over : r ≡ Full → ((l : List ℕ) → SetOf P l → length before < length l) → Matched P before after r
+pub data Matched (P : ℕ → Type 0) (before after : List ℕ) (r : Option ℕ) : Type 0 where
+  all : (n : ℕ) → r ≡ Some n → Whole P n before after → Matched P before after r
+  over : r ≡ None → ((l : List ℕ) → SetOf P l → length before < length l) → Matched P before after r

@@ -1,4 +1,3 @@
-pub mod Filled
 pub mod Shared
 pub mod Arms
 pub mod Padded

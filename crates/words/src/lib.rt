@@ -4,44 +4,52 @@
 
 ghost use Rattle.std.specs.Prelude.{◌≡◌, ◌-◌, min, max, length, replicate, get_or, set};
 
+// A number of some width.
+pub trait Number: Copy + Drop {
+    ghost ZERO: { Self };
+
+    const ZERO: Self;
+}
+
+impl Number for u8 {
+    ghost ZERO = { 0 };
+
+    const ZERO: u8 = 0;
+}
+
+impl Number for u32 {
+    ghost ZERO = { 0 };
+
+    const ZERO: u32 = 0;
+}
+
+impl Number for u64 {
+    ghost ZERO = { 0 };
+
+    const ZERO: u64 = 0;
+}
+
+// Every number of w becomes v. Of a few words this is faster than std's `fill`, which stores the last one apart.
+fn set_all<T: Number>(w: &mut [T], v: T)
+    ensures { w.new ≡ replicate (length w.old) v }
+{
+    for x in w {
+        *x = v;
+    }
+}
+
 // Every word of w becomes v.
 pub fn fill(w: &mut [u32], v: u32)
     ensures { w.new ≡ replicate (length w.old) v }
 {
-    let mut i = 0;
-    while i < w.len() {
-        w[i] = v;
-        i += 1;
-    }
+    set_all(w, v);
 }
 
-// Every word of w becomes 0.
-pub fn clear(w: &mut [u32])
-    ensures { w.new ≡ replicate (length w.old) 0 }
+// Every number of w becomes 0.
+pub fn clear<T: Number>(w: &mut [T])
+    ensures { w.new ≡ replicate (length w.old) T.ZERO }
 {
-    fill(w, 0);
-}
-
-// Every byte becomes 0.
-pub fn clear_bytes(bytes: &mut [u8])
-    ensures { bytes.new ≡ replicate (length bytes.old) 0 }
-{
-    let mut i = 0;
-    while i < bytes.len() {
-        bytes[i] = 0;
-        i += 1;
-    }
-}
-
-// Every word of 64 bits of w becomes 0.
-pub fn clear_wide(w: &mut [u64])
-    ensures { w.new ≡ replicate (length w.old) 0 }
-{
-    let mut i = 0;
-    while i < w.len() {
-        w[i] = 0;
-        i += 1;
-    }
+    set_all(w, T::ZERO);
 }
 
 // The word at i, and 0 past the end.
@@ -51,8 +59,8 @@ pub fn word_at(w: &[u32], i: usize) -> u32
     if i < w.len() { w[i] } else { 0 }
 }
 
-// The word at a place becomes v; past the end nothing changes.
-pub fn put(w: &mut [u32], at: usize, v: u32)
+// The number at a place becomes v; past the end nothing changes.
+pub fn put<T: Number>(w: &mut [T], at: usize, v: T)
     ensures { w.new ≡ set w.old at v }
 {
     if at < w.len() {
@@ -64,19 +72,19 @@ pub fn put(w: &mut [u32], at: usize, v: u32)
 pub fn minus(a: usize, b: usize) -> usize
     ensures { result ≡ a - b }
 {
-    if b <= a { a - b } else { 0 }
+    a.saturating_sub(b)
 }
 
 // The lesser of two words.
 pub fn lesser(a: u32, b: u32) -> u32
     ensures { result ≡ min a b }
 {
-    if a < b { a } else { b }
+    a.min(b)
 }
 
 // The greater of two words.
 pub fn greater(a: u32, b: u32) -> u32
     ensures { result ≡ max a b }
 {
-    if a < b { b } else { a }
+    a.max(b)
 }

@@ -9,10 +9,10 @@ pub returns-then-offsets-next : goal.returns-then-offsets-next
 returns-then-offsets-next c = no_key _ _ _ (omega arith)
 
 pub overflow_cast-a : goal.overflow_cast-a
-overflow_cast-a c = omega (arith, c.shared_slice_known-1.given c.args.key)
+overflow_cast-a c = omega (arith, c.type_inv.offsets c.args.key)
 
 pub overflow_cast-e : goal.overflow_cast-e
-overflow_cast-e c = omega (arith, c.shared_slice_known-2-1.given (c.args.key + 1))
+overflow_cast-e c = omega (arith, c.type_inv.offsets (c.args.key + 1))
 
 pub returns-then-e-a : goal.returns-then-e-a
 returns-then-e-a c = backward _ _ _ (omega arith) (omega arith)

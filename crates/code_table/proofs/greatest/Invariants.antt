@@ -2,7 +2,7 @@
 -- Assumes nothing.
 use mathlib.Core.Path.{◌≡◌}
 use mathlib.Core.List.{List}
-use Prim.Native.Nat.{◌-◌, max}
+use Prim.Native.Nat.{max}
 use lib.ListN.{drop}
 use Rattle.dalvik.specs.CodeItem.{Code}
 use Rattle.code_table.specs.Slots.{top_of}
@@ -11,6 +11,3 @@ use Rattle.code_table.proofs.greatest.Given as goal
 
 abbrev pub invariant-loop-i : goal.invariant-loop-i
 invariant-loop-i l = (cs : List Code) → Triples l.triples l.n cs → max l.r (top_of (drop l.i cs)) ≡ top_of cs
-
-abbrev pub decreases-loop-i : goal.decreases-loop-i
-decreases-loop-i l = l.n - l.i

@@ -1,6 +1,6 @@
-use mathlib.Core.Path.{sym, ap, ◌∙◌}
-use Prim.Native.Nat.{ℕ, ◌+◌, ◌≤◌, ◌<◌, min}
-use lib.ListN.{length, drop, drop_of_length-le}
+use mathlib.Core.Path.{ap, ◌∙◌}
+use Prim.Native.Nat.{ℕ, ◌+◌, ◌<◌, min}
+use lib.ListN.{length, drop}
 use Rattle.code_table.specs.Slots.{lowest}
 use Rattle.code_table.proofs.Slots.{first_word, lowest_step, lowest_seed_word}
 use native.Mathlib.Omega.{arith}
@@ -12,14 +12,8 @@ loop-i-init c = λ cs T. ap (λ (x : ℕ). lowest x (drop 1 cs)) c.word_at-r.ens
 pub loop-i-preserved : goal.loop-i-preserved
 loop-i-preserved c = λ cs T.
     let l = c.loop-i in
-    let h = c.loop-i-test.true in
+    let h : c.loop-i.i < c.args.n = omega arith in
     let k : l.i < length cs = omega (arith, T.count) in
-    ap (λ (x : ℕ). lowest x (drop (l.i + 1) cs)) (c.lesser-r.ensures ∙ ap (min l.r) (first_word T l.i h))
+    ap (λ (x : ℕ). lowest x (drop (l.i + 1) cs)) (c.min-r.ensures ∙ ap (min l.r) (first_word T l.i h))
     ∙ lowest_step l.r cs l.i k
     ∙ l.invariant cs T
-
-pub returns : goal.returns
-returns c = λ cs T.
-    let l = c.loop-i in
-    let k : length cs ≤ l.i = omega (arith, T.count) in
-    sym (ap (lowest l.r) (drop_of_length-le cs k)) ∙ l.invariant cs T

@@ -2,7 +2,6 @@
 -- Assumes nothing.
 use mathlib.Core.Path.{◌≡◌}
 use mathlib.Core.List.{List}
-use Prim.Native.Nat.{◌-◌}
 use lib.ListN.{drop}
 use Rattle.dalvik.specs.CodeItem.{Code}
 use Rattle.code_table.specs.Slots.{lowest, base_of}
@@ -11,6 +10,3 @@ use Rattle.code_table.proofs.least.Given as goal
 
 abbrev pub invariant-loop-i : goal.invariant-loop-i
 invariant-loop-i l = (cs : List Code) → Triples l.triples l.n cs → lowest l.r (drop l.i cs) ≡ base_of cs
-
-abbrev pub decreases-loop-i : goal.decreases-loop-i
-decreases-loop-i l = l.n - l.i

@@ -1,6 +1,8 @@
 -- `parse` meets its contract: what `codes` refuses the build refuses, and what it found is finished over cleared slots and shares.
 -- In each answer `lent` are the lent words as they came, and `left` as `codes` found or left them.
 -- Assumes nothing.
+use Rattle.std.specs.Prelude.{Err}
+use borrow.Author.Rules.{rules}
 use mathlib.Core.Path.{◌≡◌, sym, ap, ◌∙◌}
 use Rattle.words.specs.Padded.{zeros}
 use Rattle.class_data.proofs.Found.{taken, not_taken}
@@ -18,33 +20,34 @@ finish-requires c =
     let lent : TableWords = table_words a.starts.now a.triples.now a.slots.now a.shares.now in
     let left : TableWords = table_words c.codes.new.starts c.codes.new.triples x.new.w w.new.w in
     let as_long : room_of left ≡ room_of lent = rw (c.codes.auto.starts, c.codes.auto.triples, x.auto.w, w.auto.w) in
-    let K = taken a.file.now a.header (filled lent) (filled left) c.in-Done.n c.in-Done.ensures.gives in
+    let K = taken a.file.now a.header (filled lent) (filled left) c.in_ok-n.n c.in_ok-n.ensures.gives in
     record {
       coded = record { codes = K.codes; triples = taken_triples lent left K as_long };
       slots = x.ensures ∙ ap zeros (sym x.auto.w);
       shares = w.ensures ∙ ap zeros (sym w.auto.w);
     }
 
-pub returns-in-Refused : goal.returns-in-Refused
-returns-in-Refused c =
+pub returns-in_err-n : goal.returns-in_err-n
+returns-in_err-n c =
     let a = c.args in
-    let r = c.in-Refused.r in
+    let r = c.in_err-n.field-0.0 in
+    let e : c.from_residual.result ≡ Err r = search rules in
     let lent : TableWords = table_words a.starts.now a.triples.now a.slots.now a.shares.now in
     let left : TableWords = table_words c.codes.new.starts c.codes.new.triples c.clear.new.w c.clear-2.new.w in
-    let K = not_taken a.file.now a.header (filled lent) (filled left) r c.in-Refused.ensures.gives in
+    let K = not_taken a.file.now a.header (filled lent) (filled left) r c.in_err-n.ensures.gives in
     let all = both a.file.now a.header
     (gives_none _ r lent left (lost _ _ (room_of lent) r K.walk)
     (record { starts = K.starts; triples = K.triples; slots = c.clear.ensures; shares = c.clear-2.ensures })) in
-    record { gives = all.0; region_inside = all.1 }
+    rw e (record { gives = all.0; region_inside = all.1 })
 
-pub returns-in-Done : goal.returns-in-Done
-returns-in-Done c =
+pub returns : goal.returns
+returns c =
     let a = c.args in
     let q = c.finish in
     let lent : TableWords = table_words a.starts.now a.triples.now a.slots.now a.shares.now in
     let left : TableWords = table_words c.codes.new.starts c.codes.new.triples c.clear.new.w c.clear-2.new.w in
     let as_long : room_of left ≡ room_of lent = rw (c.codes.auto.starts, c.codes.auto.triples, c.clear.auto.w, c.clear-2.auto.w) in
-    let K = taken a.file.now a.header (filled lent) (filled left) c.in-Done.n c.in-Done.ensures.gives in
+    let K = taken a.file.now a.header (filled lent) (filled left) c.in_ok-n.n c.in_ok-n.ensures.gives in
     let all = both a.file.now a.header
     (gives_gained lent left K as_long q.result (table_words q.new.starts q.new.triples q.new.slots q.new.shares) q.ensures) in
     record { gives = all.0; region_inside = all.1 }

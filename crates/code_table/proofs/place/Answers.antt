@@ -12,22 +12,22 @@ returns-then-v-eq0 c = λ N W cd t w words inside H.
     let a = c.args in
     let p = c.requires in
     let f = c.fill in
-    let v = lent_fill a.slots.now (a.first - a.base) (a.last - a.base + 1 - (a.first - a.base)) (a.method + 1) f.new.w
-    (omega arith) f.ensures in
+    let v = lent_fill a.slots.now (a.code.first - a.base) (a.code.last - a.base + 1 - (a.code.first - a.base)) (a.code.method + 1) f.new.self
+    (omega arith) (f.ensures.after (λ y e. e)) in
     held_free H words p.above p.rises inside v c.if-v-eq0.true
 
-pub returns-then-share_room-used : goal.returns-then-share_room-used
-returns-then-share_room-used c = λ N W cd t w words inside H.
+pub returns-then-min-used : goal.returns-then-min-used
+returns-then-min-used c = λ N W cd t w words inside H.
     let p = c.requires in
     held_over H words p.above p.rises inside c.if-v-eq0.false
-    (omega (arith, c.share_room.ensures, c.if-share_room-used.true, w))
+    (omega (arith, c.min.ensures, c.if-min-used.true, w))
 
 pub returns : goal.returns
 returns c = λ N W cd t w words inside H.
     let a = c.args in
     let p = c.requires in
     let f = c.fill-2 in
-    let v = lent_fill a.slots.now (a.first - a.base) (a.last - a.base + 1 - (a.first - a.base)) (shared + a.used / 3) f.new.w
-    (omega arith) f.ensures in
+    let v = lent_fill a.slots.now (a.code.first - a.base) (a.code.last - a.base + 1 - (a.code.first - a.base)) (shared + a.used / 3) f.new.self
+    (omega arith) (f.ensures.after (λ y e. e)) in
     held_share H words p.above p.rises inside c.if-v-eq0.false v
-    c.add_share.ensures (omega (arith, c.share_room.ensures, c.if-share_room-used.false, w))
+    c.add_share.ensures (omega (arith, c.min.ensures, c.if-min-used.false, w))

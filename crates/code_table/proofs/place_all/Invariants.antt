@@ -11,9 +11,6 @@ use Rattle.code_table.proofs.Slots.{up_to}
 use Rattle.code_table.proofs.place_all.Given as goal
 
 abbrev pub invariant-loop-i : goal.invariant-loop-i
-invariant-loop-i l = (l.i ≤ l.n) × (length l.slots ≡ length l.initial.slots) × (length l.shares ≡ length l.initial.shares)
+invariant-loop-i l = (length l.slots ≡ length l.initial.slots) × (length l.shares ≡ length l.initial.shares)
     × ((cs : List Code) → Triples l.triples l.n cs → l.base ≡ base_of cs → top_of cs - l.base ≤ length l.initial.slots
     → Holds (length l.initial.slots) (length l.initial.shares) (up_to cs l.i) (slot_words l.slots l.shares) l.used)
-
-abbrev pub decreases-loop-i : goal.decreases-loop-i
-decreases-loop-i l = l.n - l.i

@@ -9,25 +9,25 @@ use Rattle.entry_lines.proofs.line.Goals as goal
 
 pub slice_bounds-entry-end : goal.slice_bounds-entry-end
 slice_bounds-entry-end c =
-    done_fits _ _ c.list_slot.new.methods _ (gives_as c.in-Done.is c.list_slot.ensures.gives)
+    done_fits _ _ c.list_slot.new.methods _ (gives_as c.in-Ok.is c.list_slot.ensures.gives)
 
-pub slice_bounds-entry-end-in-Done : goal.slice_bounds-entry-end-in-Done
-slice_bounds-entry-end-in-Done c =
+pub slice_bounds-entry-end-in-Ok : goal.slice_bounds-entry-end-in-Ok
+slice_bounds-entry-end-in-Ok c =
     sym (length-take-le _ _
-    (done_fits _ _ c.list_slot.new.methods _ (gives_as c.in-Done.is c.list_slot.ensures.gives)))
+    (done_fits _ _ c.list_slot.new.methods _ (gives_as c.in-Ok.is c.list_slot.ensures.gives)))
 
-pub returns-in-Refused : goal.returns-in-Refused
+pub returns-in-Err : goal.returns-in-Err
 unfolding line_out
-returns-in-Refused c = record {
+returns-in-Err c = record {
   gives = let a = c.args in
       line_refused _ _ c.list_slot.new.methods a.off a.idx _ _ a.text.now _
-      (gives_as c.in-Refused.is c.list_slot.ensures.gives) c.clear_bytes.ensures;
+      (gives_as c.in-Err.is c.list_slot.ensures.gives) c.clear.ensures;
 }
 
-pub returns-in-Done : goal.returns-in-Done
+pub returns-in-Ok : goal.returns-in-Ok
 unfolding line_out
-returns-in-Done c = record {
+returns-in-Ok c = record {
   gives = let a = c.args in
       line_done _ _ c.list_slot.new.methods a.off a.idx _ _ _ a.text.now _
-      (gives_as c.in-Done.is c.list_slot.ensures.gives) c.entry.ensures;
+      (gives_as c.in-Ok.is c.list_slot.ensures.gives) c.entry.ensures;
 }

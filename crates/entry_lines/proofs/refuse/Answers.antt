@@ -3,4 +3,4 @@ use mathlib.Core.Path.{refl}
 use Rattle.entry_lines.proofs.refuse.Goals as goal
 
 pub returns : goal.returns
-returns c = record { gives = record { answer = refl; no_bytes = c.clear_bytes.ensures; no_words = c.fill.ensures } }
+returns c = record { gives = record { answer = refl; no_bytes = c.clear.ensures; no_words = c.fill.ensures } }

@@ -6,7 +6,6 @@ use Rattle.entry_lines.proofs.LineLaws.{tried_alike, tries_refused, tries_done}
 use mathlib.Core.Bool.{not}
 use mathlib.Core.Path.{ap, refl, sym, ◌∙◌}
 use lib.ListN.{length}
-use borrow.Author.Rules.{rules}
 use native.Mathlib.Omega.{arith}
 use Rattle.entry_lines.proofs.try_lines.Goals as goal
 
@@ -17,43 +16,43 @@ returns-then-not-alike c = record {
 }
 
 pub loop-i-init : goal.loop-i-init
-loop-i-init c = (omega arith, refl, refl, try_start _ _)
+loop-i-init c = try_start _ _
 
-pub returns-in-Refused : goal.returns-in-Refused
-returns-in-Refused c = record {
+pub returns-in-Err : goal.returns-in-Err
+returns-in-Err c = record {
   gives = let l = c.loop-i in
       let a = c.args in
-      let n = length a.offs.now in
-      let E = entries a.offs.now a.marks.now a.answers.now a.shares.now in
+      let n = length a.lists.offs.now in
+      let E = entries a.lists in
       let f = line_at E (length a.mids.now) (length a.text.now) in
-      let g = gives_as {o = line_at E (length l.mids) (length l.text) l.i} c.in-Refused.is c.line_at.ensures.gives.line in
-      let h = gives_room E l.i l.invariant.1 l.invariant.2 g in
+      let g = gives_as {o = line_at E (length l.mids) (length l.text) l.i} c.in-Err.is c.line_at.ensures.gives.line in
+      let h = gives_room E l.i l.auto.mids l.auto.text g in
       tries_refused _
-      (try_refused f n l.i _ l.text _ (omega arith) h l.invariant.3
+      (try_refused f n l.i _ l.text _ (omega arith) h l.invariant
       ∙ sym (tried_alike E _ _ (likewise (ap not c.if-not-alike.false) c.alike.ensures)))
-      (omega (arith, l.invariant.2, c.line_at.auto.text)) (omega (arith, l.invariant.1, c.line_at.auto.mids))
-      c.refuse-in-Refused.ensures.gives;
+      (omega (arith, l.auto.text, c.line_at.auto.text)) (omega (arith, l.auto.mids, c.line_at.auto.mids))
+      c.refuse-in-Err.ensures.gives;
 }
 
 pub loop-i-preserved : goal.loop-i-preserved
 loop-i-preserved c =
     let l = c.loop-i in
     let a = c.args in
-    let n = length a.offs.now in
-    let E = entries a.offs.now a.marks.now a.answers.now a.shares.now in
+    let n = length a.lists.offs.now in
+    let E = entries a.lists in
     let f = line_at E (length a.mids.now) (length a.text.now) in
     let g = gives_as {o = line_at E (length l.mids) (length l.text) l.i} c.in_default.is c.line_at.ensures.gives.line in
-    let h = gives_room E l.i l.invariant.1 l.invariant.2 g in
-    (omega arith, search rules, search rules, try_on f n l.i _ l.text _ (omega arith) h l.invariant.3)
+    let h = gives_room E l.i l.auto.mids l.auto.text g in
+    try_on f n l.i _ l.text _ (omega arith) h l.invariant
 
 pub returns : goal.returns
 returns c = record {
   gives = let l = c.loop-i in
       let a = c.args in
-      let n = length a.offs.now in
-      let E = entries a.offs.now a.marks.now a.answers.now a.shares.now in
+      let n = length a.lists.offs.now in
+      let E = entries a.lists in
       let f = line_at E (length a.mids.now) (length a.text.now) in
       tries_done (line_words l.mids l.text)
-      (try_done f n l.i (omega arith) l.invariant.3 ∙ sym (tried_alike E _ _ (likewise (ap not c.if-not-alike.false) c.alike.ensures)))
-      (omega arith) l.invariant.2 l.invariant.1 c.clear_bytes.ensures c.clear.ensures;
+      (try_done f n l.i (omega arith) l.invariant ∙ sym (tried_alike E _ _ (likewise (ap not c.if-not-alike.false) c.alike.ensures)))
+      (omega arith) l.auto.text l.auto.mids c.clear-2.ensures c.clear.ensures;
 }

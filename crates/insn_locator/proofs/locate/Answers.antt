@@ -5,9 +5,10 @@ use Rattle.start_words.specs.Starts.{pair_count}
 use lib.ListN.{take, drop, length-append, length-drop}
 use mathlib.Core.List.{◌++◌}
 use Prim.Native.Nat.{◌≤◌}
-use Rattle.insn_locator.proofs.Whole.{locate_long, locate_room, locate_further, locate_fault, locate_done, take_zeros}
+use Rattle.insn_locator.proofs.Whole.{locate_long, locate_room, locate_further, locate_fault, locate_done, ran_none, ran_some, take_zeros}
 use Rattle.insn_locator.specs.Answers.{tables}
 use Rattle.insn_locator.proofs.Alone.{onward_first}
+use Rattle.insn_locator.proofs.Climbing.{climbs_sorted}
 use Rattle.insn_locator.proofs.Clauses.{clauses}
 use Rattle.refusal.proofs.Outcomes.{gives_refused, gives_done}
 use Rattle.refusal.specs.declared.Refusal.TheVariants.{FileTooLarge, LentTooShort, LentTable}
@@ -66,8 +67,8 @@ pub slice_bounds-locate_list-end-2 : goal.slice_bounds-locate_list-end-2
 slice_bounds-locate_list-end-2 c =
     simp length-take (omega (arith, c.clear.auto.w))
 
-pub locate_list-all-requires : goal.locate_list-all-requires
-locate_list-all-requires c =
+pub locate_list-run-requires : goal.locate_list-run-requires
+locate_list-run-requires c =
     let a = c.args in
     let n = c.count-n.result in
     let known : n ≤ length a.further.now = omega (arith, c.if-further-n.false, c.clear.auto.w) in
@@ -75,16 +76,16 @@ locate_list-all-requires c =
       room = omega (arith, c.if-answers-entries.false);
       goes_on = λ o.
           onward_first _ _ _ _ n (ap (take n) c.clear.ensures ∙ take_zeros n (length a.further.now) known)
-          (sym c.nondecreasing-onward.ensures ∙ o);
+          (climbs_sorted _ _ c.is_sorted-onward.ensures.cases o);
     }
 
-pub returns-then-all : goal.returns-then-all
-returns-then-all c =
+pub returns-then-is_some : goal.returns-then-is_some
+returns-then-is_some c =
     let all = let a = c.args in
     let T = tables a.base a.slots.now a.starts.now a.shares.now in
     let n = c.count-n.result in
     let same : n ≡ pair_count a.starts.now = c.count-n.ensures in
-    let run = c.locate_list-all in
+    let run = c.locate_list-run in
     let cleared = c.clear-2 in
     let unset = c.clear in
     let fits = met c.too_large.ensures c.if-too_large.false in
@@ -94,7 +95,7 @@ returns-then-all c =
     let whole : length (run.new.last ++ drop n unset.new.w) ≡ length a.further.now =
     simp (length-append, length-drop) (omega (arith, run.auto, unset.auto.w, length-take n unset.new.w)) in
     let ran = locate_done a.file.now T a.entries.now (length a.answers.now) (length a.further.now) fits room (omega arith) _ none_yet
-    cleared.new.w _ cleared.ensures (rw c.if-all.true at run.ensures) in
+    cleared.new.w _ cleared.ensures (sym (ran_some run.result _ (sym c.is_some.ensures ∙ c.if-is_some.true)) ∙ run.ensures) in
     clauses a.file.now T a.entries.now _ _ _
     (record {
       answer = gives_done _ a.answers.now _ (length a.entries.now) ran.list ran.outcome ran.count ran.words;
@@ -108,7 +109,7 @@ returns c =
     let T = tables a.base a.slots.now a.starts.now a.shares.now in
     let n = c.count-n.result in
     let same : n ≡ pair_count a.starts.now = c.count-n.ensures in
-    let run = c.locate_list-all in
+    let run = c.locate_list-run in
     let cleared = c.clear-2 in
     let unset = c.clear in
     let fits = met c.too_large.ensures c.if-too_large.false in
@@ -119,7 +120,7 @@ returns c =
     simp (length-append, length-drop) (omega (arith, run.auto, unset.auto.w, length-take n unset.new.w)) in
     let fault =
     locate_fault a.file.now T a.entries.now (length a.answers.now) (length a.further.now) fits room (omega arith) _ none_yet
-    cleared.new.w (rw c.if-all.false at run.ensures) in
+    cleared.new.w (sym (ran_none run.result _ (sym c.is_some.ensures ∙ c.if-is_some.false)) ∙ run.ensures) in
     let all : length run.new.answers ≡ length a.answers.now = omega (arith, run.auto, cleared.auto.w) in
     clauses a.file.now T a.entries.now _ _ _
     (record {

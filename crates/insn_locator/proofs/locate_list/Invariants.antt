@@ -8,14 +8,10 @@ use Rattle.insn_locator.specs.Locate.{locate_from}
 use lib.ListN.{length, drop}
 use mathlib.Core.Path.{◌≡◌}
 use mathlib.Core.Bool.{true}
-use Prim.Native.Nat.{◌-◌, ◌≤◌}
 use Rattle.insn_locator.proofs.locate_list.Given as goal
 
 abbrev pub invariant-loop-i : goal.invariant-loop-i
-invariant-loop-i l = (stored l.answers l.i (rest l.buf (tables l.base l.slots l.starts l.shares) l.entries l.i l.last) ≡ stored l.initial.answers 0
-    (locate_from l.buf (tables l.base l.slots l.starts l.shares) l.initial.last l.entries))
-    × (l.i ≤ length l.entries) × (length l.last ≡ length l.initial.last) × (length l.answers ≡ length l.initial.answers)
-    × (l.onward ≡ true → Onward l.buf (tables l.base l.slots l.starts l.shares) l.last (drop l.i l.entries))
-
-abbrev pub decreases-loop-i : goal.decreases-loop-i
-decreases-loop-i l = length l.entries - l.i
+invariant-loop-i l = (stored l.answers l.i (rest l.buf (tables l.lent.base l.lent.slots.now l.lent.starts.now l.lent.shares.now) l.entries l.i l.last) ≡ stored l.initial.answers 0
+    (locate_from l.buf (tables l.lent.base l.lent.slots.now l.lent.starts.now l.lent.shares.now) l.initial.last l.entries))
+    × (length l.last ≡ length l.initial.last) × (length l.answers ≡ length l.initial.answers)
+    × (l.onward ≡ true → Onward l.buf (tables l.lent.base l.lent.slots.now l.lent.starts.now l.lent.shares.now) l.last (drop l.i l.entries))

@@ -1,6 +1,5 @@
-use mathlib.Core.Path.{refl, sym, ap, ◌∙◌}
+use mathlib.Core.Path.{refl, sym, ◌∙◌}
 use native.Mathlib.Omega.{arith}
-use Rattle.insn_walk.specs.Steps.{next_of}
 use Rattle.insn_walk.proofs.Steps.{step_outside, step_keeps}
 use Rattle.insn_walk.proofs.Walks.{after_none, lands_step, walk_on, walk_lands, walk_passes, walk_fails}
 use borrow.Author.Rules.{rules}
@@ -18,27 +17,27 @@ loop-pos-init c = (
     now = λ u h. refl;
   },
   search rules,
-  c.nearer-bound.ensures,
+  search rules,
 )
 
 pub returns-in_default : goal.returns-in_default
 returns-in_default c =
     let going = c.loop-pos.invariant.0 in
     record {
-      is = walk_fails _ _ _ _ (omega arith) (ap next_of (sym c.in_default.is) ∙ c.step.ensures) ∙ going.taken;
+      is = walk_fails _ _ _ _ (omega arith) (sym c.in_default.is ∙ c.step.ensures) ∙ going.taken;
       forward = going.stands;
       most = omega arith;
       same = going.now;
     }
 
 pub loop-pos-smaller : goal.loop-pos-smaller
-loop-pos-smaller c = omega (arith, step_keeps _ _ _ (ap next_of (sym c.in-Next.is) ∙ c.step.ensures))
+loop-pos-smaller c = omega (arith, step_keeps _ _ _ (sym c.in-Some.is ∙ c.step.ensures))
 
 pub loop-pos-preserved : goal.loop-pos-preserved
 loop-pos-preserved c =
     let k = c.loop-pos in
     let going = k.invariant.0 in
-    let told = ap next_of (sym c.in-Next.is) ∙ c.step.ensures in
+    let told = sym c.in-Some.is ∙ c.step.ensures in
     let further = step_keeps _ _ _ told in (
       record {
         taken = walk_on _ _ _ _ _ (omega arith) told ∙ going.taken;

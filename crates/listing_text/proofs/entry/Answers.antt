@@ -12,7 +12,7 @@ unfolding entry_out
 returns c =
     let a = c.args in
     text_out a.out.now (off= ++ decimal a.off ++ idx= ++ decimal a.idx ++ mids= ++ mids_text a.mids.now)
-    c.clear_bytes.ensures
+    c.clear.ensures
     (writes_then
     (writes_then
     (writes_named idx= (decimal a.idx) c.put_named-a.ensures c.put_named-b.ensures)

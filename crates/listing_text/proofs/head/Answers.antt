@@ -2,7 +2,6 @@
 -- are the head's text.
 -- Assumes nothing.
 use mathlib.Core.Path.{refl}
-use mathlib.Core.Logic.{inl, inr}
 use mathlib.Core.List.{◌++◌}
 use lib.ListN.{length}
 use native.Mathlib.Omega.{arith}
@@ -17,20 +16,13 @@ use Rattle.listing_text.proofs.head.Goals as goal
 
 pub returns-then-kind-eq0 : goal.returns-then-kind-eq0
 returns-then-kind-eq0 c =
-    let a = c.args in
-    rw (head_unknown _ a.hits (length a.out.now) (inl c.if-kind-eq0.true))
-    (gives_refused _ _ _ UnknownKind refl c.clear_bytes.ensures)
-
-pub returns-then-kind-gt4 : goal.returns-then-kind-gt4
-returns-then-kind-gt4 c =
-    let a = c.args in
-    rw (head_unknown _ a.hits (length a.out.now) (inr c.if-kind-gt4.true))
-    (gives_refused _ _ _ UnknownKind refl c.clear_bytes.ensures)
+    rw (head_unknown _ _ _ c.then-kind-eq0.either)
+    (gives_refused _ _ _ UnknownKind refl c.clear.ensures)
 
 pub returns : goal.returns
 returns c =
     let a = c.args in
-    rw (head_known a.kind a.hits (length a.out.now) (omega arith) (omega arith)) (
-    text_out a.out.now (kind= ++ kind_name a.kind ++ hits= ++ decimal a.hits) c.clear_bytes.ensures
+    rw (head_known a.kind a.hits (length a.out.now) (omega arith) c.if-kind-gt4.false) (
+    text_out a.out.now (kind= ++ kind_name a.kind ++ hits= ++ decimal a.hits) c.clear.ensures
     (writes_named hits= (decimal a.hits) (writes_then c.put-a.ensures c.put_kind-b.ensures) c.put_named-c.ensures)
     c.end_line.ensures)

@@ -12,6 +12,6 @@ pub returns : goal.returns
 unfolding refusal_out
 returns c =
     let a = c.args in
-    text_out a.out.now (refusal= ++ decimal (refusal_number a.why)) c.clear_bytes.ensures
-    (named_number refusal= c.number.ensures c.put_named-a.ensures)
+    text_out a.out.now (refusal= ++ decimal (refusal_number a.why)) c.clear.ensures
+    (named_number refusal= c.from.ensures c.put_named-a.ensures)
     c.end_line.ensures

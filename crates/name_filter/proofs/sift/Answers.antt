@@ -1,21 +1,18 @@
 -- `name_filter::sift` meets its contract: without a fault the strings that the set holds are the named ones. Assumes nothing.
-use mathlib.Core.Path.{refl, ap, sym, ◌∙◌}
+use Rattle.std.specs.Prelude.{Err}
+use borrow.Author.Rules.{rules}
+use mathlib.Core.Path.{◌≡◌, refl}
 use native.Mathlib.Omega.{arith}
-use Rattle.word_set.specs.Found.{fault_number}
 use Rattle.name_filter.specs.Steps.{stopped}
-use Rattle.name_filter.proofs.Sifting.{sift_done, sift_short}
+use Rattle.name_filter.proofs.Sifting.{sift_said}
 use Rattle.name_filter.proofs.sift.Goals as goal
 
-pub returns-in-Refused : goal.returns-in-Refused
-returns-in-Refused c =
-    stopped c.in-Refused.why refl (sym (ap fault_number c.in-Refused.is) ∙ c.mark-fault.ensures.fault)
-
-pub returns-in_default-gather : goal.returns-in_default-gather
-returns-in_default-gather c =
-    sift_short c.mark-fault.ensures (ap fault_number c.in_default.is) (omega (arith, c.requires.small, c.mark-fault.auto))
-    c.requires.clear c.gather.ensures c.in_default-gather.is
+pub returns-in_err-mark : goal.returns-in_err-mark
+returns-in_err-mark c =
+    let why = c.in_err-mark.field-0.0 in
+    let e : c.from_residual.result ≡ Err why = search rules in
+    rw e (stopped why refl c.in_err-mark.ensures.fault)
 
 pub returns : goal.returns
 returns c =
-    sift_done c.mark-fault.ensures (ap fault_number c.in_default.is) (omega (arith, c.requires.small, c.mark-fault.auto))
-    c.requires.clear c.gather.ensures _ c.in-Held.is
+    sift_said c.in_ok-mark.ensures refl (omega (arith, c.requires.small, c.mark.auto)) c.requires.clear c.gather.ensures c.ok_or.ensures.value

@@ -1,25 +1,18 @@
-use mathlib.Core.Path.{◌≡◌, refl, sym, ap, ◌∙◌}
+use Rattle.std.specs.Prelude.{Some, Option}
+use mathlib.Core.Path.{◌≡◌, sym, ap, ◌∙◌}
 use mathlib.Core.List.{List}
-use mathlib.Core.Option.{Option}
-use Prim.Native.Nat.{ℕ, ◌+◌, ◌-◌, ◌*◌}
+use Prim.Native.Nat.{ℕ, ◌+◌, ◌-◌}
 use native.Mathlib.Omega.{arith}
-use Rattle.slot_listing.specs.declared.Chain.TheVariants.{Count}
 use Rattle.slot_listing.specs.Steps.{methods_of, count_of}
-use Rattle.slot_listing.proofs.Chains.{earlier_word, last_word, share_outside, share_ends, share_back, share_goes, more, more_none, more_one}
+use Rattle.slot_listing.proofs.Chains.{earlier_word, last_word, share_outside, share_ends, share_back, share_goes, more, more_one}
 use Rattle.slot_listing.proofs.chain_count.Goals as goal
-
-pub loop-at-init : goal.loop-at-init
-loop-at-init c = (sym (more_none (count_of (methods_of c.args.shares.now c.args.k))), omega arith, refl)
-
-pub overflow_cast-earlier : goal.overflow_cast-earlier
-overflow_cast-earlier c = omega (arith, c.type_inv.shares (3 * c.loop-at.at + 2))
 
 pub returns-then-earlier-eq0 : goal.returns-then-earlier-eq0
 returns-then-earlier-eq0 c =
     let ws = c.args.shares.now in
     let s = c.loop-at in
     let q : 2 + s.n ≡ s.n + 2 = omega arith in
-    sym (s.invariant.0 ∙ ap (λ (r : Option (List ℕ)). more s.n (count_of r)) (share_ends ws s.at (omega arith) c.if-earlier-eq0.true) ∙ ap Count q)
+    sym (s.invariant.0 ∙ ap (λ (r : Option (List ℕ)). more s.n (count_of r)) (share_ends ws s.at (omega arith) c.if-earlier-eq0.true) ∙ ap Some q)
 
 pub returns-then-at-earlier : goal.returns-then-at-earlier
 returns-then-at-earlier c =

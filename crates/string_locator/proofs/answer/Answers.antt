@@ -4,9 +4,7 @@ use Rattle.string_locator.proofs.Laws.{too_large, no_strings, ids_outside, too_s
 use Rattle.refusal.specs.Refusals.{is_too_large}
 use lib.ListN.{length}
 use mathlib.Core.Bool.{false}
-use mathlib.Core.Logic.{⊎_elim}
 use mathlib.Core.Path.{◌≡◌, sym, ◌∙◌}
-use native.Mathlib.Nat.{eq-or-lt_of_le}
 use native.Mathlib.Omega.{arith}
 use Rattle.string_locator.proofs.answer.Goals as goal
 
@@ -27,13 +25,6 @@ pub returns-then-lent-n : goal.returns-then-lent-n
 returns-then-lent-n c =
     let small : is_too_large (length c.args.file.now) ≡ false = sym c.too_large.ensures ∙ c.if-too_large.false in
     too_short _ _ _ _ small c.if-n-eq0.false (omega (arith, c.end.ensures)) c.if-lent-n.true
-
-pub strings_area-requires : goal.strings_area-requires
-strings_area-requires c = (
-  ⊎_elim (λ e. absurd (c.if-n-eq0.false (sym e))) (λ l. l) (eq-or-lt_of_le {n = 0} (omega arith)),
-  record
-      { ids = λ _. omega (arith, c.end.ensures); few = omega arith },
-)
 
 pub returns : goal.returns
 returns c =

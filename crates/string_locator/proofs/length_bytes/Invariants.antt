@@ -1,14 +1,10 @@
--- `length_bytes` meets its contract: the bytes passed and those still to come are all, and each turn passes one.
+-- `length_bytes` meets its contract: the bytes passed and those still to come are all.
 -- Assumes nothing.
-use Prim.Native.Nat.{◌≤◌, ◌-◌}
+use Prim.Native.Nat.{◌-◌}
 use mathlib.Core.Path.{◌≡◌}
-use lib.ListN.{length}
 use Rattle.string_locator.specs.LengthBytes.{length_bytes}
 use Rattle.string_locator.proofs.LengthBytes.{passed}
 use Rattle.string_locator.proofs.length_bytes.Given as goal
 
 abbrev pub invariant-loop-at : goal.invariant-loop-at
-invariant-loop-at l = (l.from ≤ l.at) × (passed (l.at - l.from) (length_bytes l.file l.at) ≡ length_bytes l.file l.from)
-
-abbrev pub decreases-loop-at : goal.decreases-loop-at
-decreases-loop-at l = length l.file - l.at
+invariant-loop-at l = passed (l.at - l.from) (length_bytes l.file l.at) ≡ length_bytes l.file l.from

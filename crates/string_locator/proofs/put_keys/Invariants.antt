@@ -1,14 +1,10 @@
 -- `string_locator::put_keys` meets its contract: the words passed are the keys of as many strings.
 -- Assumes nothing.
 use Rattle.string_locator.specs.Map.{keys_of}
-use lib.ListN.{length, drop}
+use lib.ListN.{drop}
 use mathlib.Core.List.{◌++◌}
 use mathlib.Core.Path.{◌≡◌}
-use Prim.Native.Nat.{◌-◌, ◌≤◌}
 use Rattle.string_locator.proofs.put_keys.Given as goal
 
 abbrev pub invariant-loop-i : goal.invariant-loop-i
-invariant-loop-i l = (l.keys ≡ keys_of l.file l.table l.i ++ drop l.i l.initial.keys) × (l.i ≤ length l.initial.keys) × (length l.keys ≡ length l.initial.keys)
-
-abbrev pub decreases-loop-i : goal.decreases-loop-i
-decreases-loop-i l = length l.initial.keys - l.i
+invariant-loop-i l = l.keys ≡ keys_of l.file l.table l.i ++ drop l.i l.initial.keys

@@ -1,4 +1,4 @@
--- `last_zero` meets its contract: from the end back to n no byte is zero.
+-- `last_zero` meets its contract: from the end back to i no byte is zero.
 -- Assumes nothing.
 use Prim.Native.Nat.{ℕ, ◌≤◌, ◌<◌}
 use mathlib.Core.Logic.{◌≢◌}
@@ -6,8 +6,5 @@ use lib.ListN.{length}
 use Rattle.dalvik.specs.Numbers.{byte}
 use Rattle.string_texts.proofs.last_zero.Given as goal
 
-abbrev pub invariant-loop-n : goal.invariant-loop-n
-invariant-loop-n l = (l.n ≤ length l.file) × ((k : ℕ) → l.n ≤ k → k < length l.file → byte l.file k ≢ 0)
-
-abbrev pub decreases-loop-n : goal.decreases-loop-n
-decreases-loop-n l = l.n
+abbrev pub invariant-loop-i : goal.invariant-loop-i
+invariant-loop-i l = (k : ℕ) → l.i ≤ k → k < length l.file → byte l.file k ≢ 0

@@ -1,20 +1,17 @@
--- `text_begin` meets its contract: the length bytes' refusal, or a start before the last zero, or one after it.
+-- `text_begin` meets its contract: a text that begins before the last zero has an end, and none has that begins after it.
 -- Assumes nothing.
-use mathlib.Core.Path.{sym, ap, ◌∙◌}
-use Rattle.string_texts.specs.Starts.{text_at}
+use Rattle.std.proofs.lemmas.Result.{err_from_is_err_and}
+use mathlib.Core.Path.{refl}
 use Rattle.string_texts.proofs.Keys.{begin_refused, begin_at, begin_open}
 use Rattle.string_texts.proofs.text_begin.Goals as goal
 
-pub returns-in_default : goal.returns-in_default
-returns-in_default c =
-    begin_refused _ _ _ c.requires _ _ c.in_default.is c.text_start-begin.ensures
+pub returns-in_err-at : goal.returns-in_err-at
+returns-in_err-at c =
+    let p = err_from_is_err_and c.from_residual.result c.from_residual.ensures.1 in
+    rw (p.1, p.2) (begin_refused _ _ _ c.requires _ _ refl c.in_err-at.ensures)
 
 pub returns-then-at-zeros : goal.returns-then-at-zeros
-returns-then-at-zeros c =
-    begin_at _ _ _ c.requires _ (ap (text_at _) (sym c.in-At.is) ∙ c.text_start-begin.ensures)
-    c.if-at-zeros.true
+returns-then-at-zeros c = begin_at _ _ _ c.requires _ c.in_ok-at.ensures c.if-at-zeros.true
 
-pub returns : goal.returns
-returns c =
-    begin_open _ _ _ c.requires _ (ap (text_at _) (sym c.in-At.is) ∙ c.text_start-begin.ensures)
-    c.if-at-zeros.false
+pub returns-else-at-zeros : goal.returns-else-at-zeros
+returns-else-at-zeros c = begin_open _ _ _ c.requires _ c.in_ok-at.ensures c.if-at-zeros.false

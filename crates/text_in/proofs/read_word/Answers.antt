@@ -1,31 +1,20 @@
-use mathlib.Core.Path.{refl, ◌∙◌}
+use Rattle.std.proofs.Common.{◌+◌, ◌<◌, length, arith}
+use Rattle.std.proofs.lemmas.Grind.{common_steps}
 use Rattle.text_in.proofs.Laws.{word_end, word_off, word_other, word_more}
-use native.Mathlib.Omega.{arith}
 use Rattle.text_in.proofs.read_word.Goals as goal
 
-pub loop-k-init : goal.loop-k-init
-loop-k-init c = refl
+pub returns-in_err-b : goal.returns-in_err-b
+returns-in_err-b c = grind (arith, common_steps, word_off)
 
-pub returns-then-text-i : goal.returns-then-text-i
-returns-then-text-i c =
-    let a = c.args in
-    let l = c.loop-k in
-    word_off a.letters.now a.text.now l.k l.i (omega arith) (omega arith) ∙ l.invariant
-
-pub returns-then-text-i-2 : goal.returns-then-text-i-2
-returns-then-text-i-2 c =
-    let a = c.args in
-    let l = c.loop-k in
-    word_other a.letters.now a.text.now l.k l.i (omega arith) (omega arith) c.if-text-i-2.true ∙ l.invariant
+pub returns-then-b-letter : goal.returns-then-b-letter
+returns-then-b-letter c = grind (arith, common_steps, word_other)
 
 pub loop-k-preserved : goal.loop-k-preserved
 loop-k-preserved c =
-    let a = c.args in
     let l = c.loop-k in
-    word_more a.letters.now a.text.now l.k l.i (omega arith) (omega arith) c.if-text-i-2.false ∙ l.invariant
+    let inside : c.args.at + l.k < length c.args.text.now = grind (arith, common_steps) in
+    let more = word_more c.args.letters.now c.args.text.now l.k (c.args.at + l.k) c.loop-k-test.true inside (grind (arith, common_steps)) in
+    record { inside = omega arith; same = grind (arith, more, l.invariant.same) }
 
 pub returns : goal.returns
-returns c =
-    let a = c.args in
-    let l = c.loop-k in
-    word_end a.letters.now a.text.now l.k l.i (omega arith) ∙ l.invariant
+returns c = grind (arith, common_steps, word_end)

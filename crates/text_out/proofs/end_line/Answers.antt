@@ -6,7 +6,7 @@ use Rattle.text_out.proofs.end_line.Goals as goal
 
 pub returns-then-out-end : goal.returns-then-out-end
 returns-then-out-end c =
-    ends_over c.put-end.ensures _ (omega arith) c.clear_bytes.ensures
+    ends_over c.put-end.ensures _ (omega arith) c.clear.ensures
 
 pub returns : goal.returns
 returns c = ends_fit c.put-end.ensures (omega arith)

@@ -1,7 +1,7 @@
--- Marked or held are the types of the strings before i, and those of the others are still to come.
+-- Marked or held are the types of the strings before this one, and those of the others are still to come.
 -- Assumes nothing.
 use Rattle.groups.specs.Built.{group_words}
-use Prim.Native.Nat.{◌-◌, ◌≤◌}
+use Prim.Native.Nat.{◌≤◌}
 use mathlib.Core.Path.{◌≡◌}
 use lib.ListN.{length, drop}
 use Rattle.index_set.specs.Marked.{set_words}
@@ -9,9 +9,6 @@ use Rattle.index_set.proofs.Marking.{Marking}
 use Rattle.type_search.specs.Steps.{TypesOf}
 use Rattle.type_search.proofs.collect_marked.Given as goal
 
-abbrev pub invariant-loop-i : goal.invariant-loop-i
-invariant-loop-i l = Marking (TypesOf (group_words l.str_offsets l.type_idxs) l.found) (TypesOf (group_words l.str_offsets l.type_idxs) (drop l.i l.found)) (length l.initial.out) l.n
-    (set_words l.marks l.out) × (l.i ≤ length l.found) × (length l.marks ≡ length l.initial.marks)
-
-abbrev pub decreases-loop-i : goal.decreases-loop-i
-decreases-loop-i l = length l.found - l.i
+abbrev pub invariant-loop-string : goal.invariant-loop-string
+invariant-loop-string l = Marking (TypesOf (group_words l.str_offsets l.type_idxs) l.found) (TypesOf (group_words l.str_offsets l.type_idxs) (drop l.string-index l.found))
+    (length l.initial.out) l.n (set_words l.marks l.out) × (l.string-index ≤ length l.found) × (length l.marks ≡ length l.initial.marks)

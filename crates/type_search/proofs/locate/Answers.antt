@@ -2,55 +2,59 @@
 -- Assumes nothing.
 use Rattle.type_search.proofs.Exits.{held_fit, exit_fault, exit_empty, exit_strings, exit_types, exit_done}
 use Rattle.type_search.proofs.Types.{asked_fault}
-use Rattle.word_set.specs.Found.{fault_number}
+use Rattle.std.specs.Prelude.{Err}
+use borrow.Author.Rules.{rules}
+use borrow.Author.Tests.{eqb-true, eqb-false}
 use Rattle.word_set.proofs.Found.{zeros_again}
 use Rattle.groups.specs.Built.{group_words}
 use Rattle.string_search.specs.Search.{area}
 use lib.Seq.{length-take-le}
 use lib.ListN.{length}
-use mathlib.Core.Path.{ap, sym, ◌∙◌}
+use mathlib.Core.Path.{◌≡◌, sym, ◌∙◌}
 use native.Mathlib.Omega.{arith}
 use Rattle.type_search.proofs.locate.Goals as goal
 
-pub returns-in-Refused : goal.returns-in-Refused
-returns-in-Refused c = record {
-  gives = let a = c.args in
-      let zs = c.clear.ensures in
-      let zo = c.clear-2.ensures in
-      exit_fault (area a.file.now a.keys.now a.start a.end) a.query.now (group_words a.str_offsets.now a.type_idxs.now)
-      a.strings.now a.out.now _ _ zs zo c.in-Refused.why
-      (sym (ap fault_number c.in-Refused.is) ∙ c.search_fault-fault.ensures);
-}
+pub returns-in_err-search_fault : goal.returns-in_err-search_fault
+returns-in_err-search_fault c =
+    let a = c.args in
+    let zs = c.clear.ensures in
+    let zo = c.clear-2.ensures in
+    let e : c.from_residual.result ≡ Err c.in_err-search_fault.field-0.0 = search rules in
+    rw e record {
+      gives =
+          exit_fault (area a.file.now a.keys.now a.start a.end) a.query.now (group_words a.str_offsets.now a.type_idxs.now)
+          a.strings.now a.out.now _ _ zs zo c.in_err-search_fault.field-0.0 c.in_err-search_fault.ensures;
+    }
 
-pub returns-then-query-eq0 : goal.returns-then-query-eq0
-returns-then-query-eq0 c = record {
+pub returns-then-is_empty : goal.returns-then-is_empty
+returns-then-is_empty c = record {
   gives = let a = c.args in
       let zs = c.clear.ensures in
       let zo = c.clear-2.ensures in
       exit_empty (area a.file.now a.keys.now a.start a.end) a.query.now (group_words a.str_offsets.now a.type_idxs.now)
       a.strings.now a.out.now _ _ zs zo
-      (sym (ap fault_number c.in_default.is) ∙ c.search_fault-fault.ensures) c.if-query-eq0.true;
+      c.in_ok-search_fault.ensures (eqb-true (length a.query.now) 0 (sym c.is_empty.ensures ∙ c.if-is_empty.true));
 }
 
-pub returns-in_default-locate : goal.returns-in_default-locate
-returns-in_default-locate c = record {
+pub returns-in_default : goal.returns-in_default
+returns-in_default c = record {
   gives = let a = c.args in
       let zs = c.clear.ensures in
       let zo = c.clear-2.ensures in
       exit_strings (area a.file.now a.keys.now a.start a.end) a.query.now (group_words a.str_offsets.now a.type_idxs.now)
-      a.strings.now a.out.now _ _ zs zo (sym (ap fault_number c.in_default.is) ∙ c.search_fault-fault.ensures)
+      a.strings.now a.out.now _ _ zs zo c.in_ok-search_fault.ensures
       c.locate.ensures.gives
-      (asked_fault _ _ _ c.if-query-eq0.false (sym (ap fault_number c.in_default.is) ∙ c.search_fault-fault.ensures))
-      c.in_default-locate.field-0 c.in_default-locate.is;
+      (asked_fault _ _ _ (eqb-false (length a.query.now) 0 (sym c.is_empty.ensures ∙ c.if-is_empty.false)) c.in_ok-search_fault.ensures)
+      c.in_default.field-0 c.in_default.is;
 }
 
 pub slice_bounds-collect-end : goal.slice_bounds-collect-end
 slice_bounds-collect-end c =
-    held_fit c.locate.ensures.gives _ c.in-Done.is
+    held_fit c.locate.ensures.gives _ c.in-Ok.is
 
 pub slice_bounds-collect-end-2 : goal.slice_bounds-collect-end-2
 slice_bounds-collect-end-2 c =
-    sym (length-take-le _ _ (held_fit c.locate.ensures.gives _ c.in-Done.is))
+    sym (length-take-le _ _ (held_fit c.locate.ensures.gives _ c.in-Ok.is))
 
 pub collect-found-requires : goal.collect-found-requires
 collect-found-requires c =
@@ -66,8 +70,8 @@ returns-in_default-found c = record {
       let zs = c.clear.ensures in
       let zo = c.clear-2.ensures in
       exit_types (area a.file.now a.keys.now a.start a.end) a.query.now (group_words a.str_offsets.now a.type_idxs.now)
-      a.strings.now a.out.now _ _ zs zo (sym (ap fault_number c.in_default.is) ∙ c.search_fault-fault.ensures)
-      c.locate.ensures.gives _ c.in-Done.is _ c.fill.ensures (omega (arith, c.locate.auto))
+      a.strings.now a.out.now _ _ zs zo c.in_ok-search_fault.ensures
+      c.locate.ensures.gives _ c.in-Ok.is _ c.fill.ensures (omega (arith, c.locate.auto))
       c.collect-found.ensures _ c.in_default-found.is (omega (arith, c.collect-found.auto))
       c.clear-in_default-found.ensures;
 }
@@ -78,7 +82,7 @@ returns c = record {
       let zs = c.clear.ensures in
       let zo = c.clear-2.ensures in
       exit_done (area a.file.now a.keys.now a.start a.end) a.query.now (group_words a.str_offsets.now a.type_idxs.now)
-      a.strings.now a.out.now _ _ zs zo (sym (ap fault_number c.in_default.is) ∙ c.search_fault-fault.ensures)
-      c.locate.ensures.gives _ c.in-Done.is _ c.fill.ensures (omega (arith, c.locate.auto))
-      c.collect-found.ensures _ c.in-Held.is;
+      a.strings.now a.out.now _ _ zs zo c.in_ok-search_fault.ensures
+      c.locate.ensures.gives _ c.in-Ok.is _ c.fill.ensures (omega (arith, c.locate.auto))
+      c.collect-found.ensures _ c.in-Some.is;
 }

@@ -9,7 +9,7 @@ use Rattle.code_item_scan.proofs.Starts.{Came}
 use Rattle.code_item_scan.proofs.hits.next_string.Given as goal
 
 abbrev pub invariant-loop-at : goal.invariant-loop-at
-invariant-loop-at l = Came l.s (sought strings (listed (index_set_of [] l.bits l.others l.words)) l.start l.end) l.at
+invariant-loop-at l = Came l.s (sought strings (listed (index_set_of [] l.set.bits.now l.set.others l.set.words.now)) l.start l.end) l.at
 
 abbrev pub decreases-loop-at : goal.decreases-loop-at
 decreases-loop-at l = l.end - l.at

@@ -1,12 +1,9 @@
--- `code_item_scan::wanted_of` meets its contract: the set and what stands outside it are those of the words passed. Assumes nothing.
-use Prim.Native.Nat.{◌-◌, ◌≤◌}
+-- The set and what stands outside it are those of the words passed.
+-- Assumes nothing.
 use mathlib.Core.Path.{◌≡◌}
 use lib.ListN.{length, take}
 use Rattle.code_item_scan.specs.Steps.{WantedOf}
 use Rattle.code_item_scan.proofs.wanted.wanted_of.Given as goal
 
-abbrev pub invariant-loop-i : goal.invariant-loop-i
-invariant-loop-i l = WantedOf (take l.i l.wanted) l.bits l.others × (l.i ≤ length l.wanted) × (length l.bits ≡ length l.initial.bits)
-
-abbrev pub decreases-loop-i : goal.decreases-loop-i
-decreases-loop-i l = length l.wanted - l.i
+abbrev pub invariant-loop-word : goal.invariant-loop-word
+invariant-loop-word l = WantedOf (take l.word-index l.wanted) l.bits l.others × (length l.bits ≡ length l.initial.bits)

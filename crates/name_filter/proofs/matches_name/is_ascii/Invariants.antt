@@ -2,11 +2,8 @@
 -- Assumes nothing.
 use Rattle.name_filter.proofs.HasName.{AsciiBelow}
 use lib.ListN.{length}
-use Prim.Native.Nat.{◌-◌, ◌≤◌}
+use Prim.Native.Nat.{◌≤◌}
 use Rattle.name_filter.proofs.matches_name.is_ascii.Given as goal
 
-abbrev pub invariant-loop-i : goal.invariant-loop-i
-invariant-loop-i l = (l.i ≤ length l.bytes) × AsciiBelow l.bytes l.i l.all
-
-abbrev pub decreases-loop-i : goal.decreases-loop-i
-decreases-loop-i l = length l.bytes - l.i
+abbrev pub invariant-loop-byte : goal.invariant-loop-byte
+invariant-loop-byte l = (l.byte-index ≤ length l.bytes) × AsciiBelow l.bytes l.byte-index l.all

@@ -1,5 +1,5 @@
 use Rattle.word_set.proofs.Decides.{decided_yes, decided_no}
-use Rattle.name_filter.proofs.HasName.{has_empty_of, has_short, has_at, has_none, room_at, search_start, search_next, search_less}
+use Rattle.name_filter.proofs.HasName.{letters, has_empty_of, has_short, has_at, has_none, room_at, search_start, search_next, search_less}
 use Rattle.name_filter.proofs.matches_name.matches_name.Goals as goal
 
 pub returns-then-n-eq0 : goal.returns-then-n-eq0
@@ -12,7 +12,8 @@ returns-then-text-n c =
 pub loop-at-init : goal.loop-at-init
 loop-at-init c =
     let a = c.args in
-    search_start a.text.now a.query.now _ _ c.if-n-eq0.false c.lower-a.ensures c.upper-b.ensures _
+    let l = letters _ _ _ c.to_ascii_lowercase-a.ensures.value c.to_ascii_uppercase-b.ensures.value in
+    search_start a.text.now a.query.now _ _ c.if-n-eq0.false l.0 l.1 _
     c.memchr2-at.ensures
 
 pub stands_at-requires : goal.stands_at-requires
@@ -28,14 +29,16 @@ returns-then-stands_at c =
 pub loop-at-smaller : goal.loop-at-smaller
 loop-at-smaller c =
     let a = c.args in
-    search_less a.text.now a.query.now _ _ c.if-n-eq0.false c.lower-a.ensures c.upper-b.ensures
+    let l = letters _ _ _ c.to_ascii_lowercase-a.ensures.value c.to_ascii_uppercase-b.ensures.value in
+    search_less a.text.now a.query.now _ _ c.if-n-eq0.false l.0 l.1
     c.loop-at.at _ c.if-text-n.false c.loop-at-test.true c.memchr2-at-in-loop-at.ensures
 
 pub loop-at-preserved : goal.loop-at-preserved
 loop-at-preserved c =
     let a = c.args in
+    let l = letters _ _ _ c.to_ascii_lowercase-a.ensures.value c.to_ascii_uppercase-b.ensures.value in
     let k = c.loop-at in
-    search_next a.text.now a.query.now _ _ c.if-n-eq0.false c.lower-a.ensures c.upper-b.ensures k.at _
+    search_next a.text.now a.query.now _ _ c.if-n-eq0.false l.0 l.1 k.at _
     c.memchr2-at-in-loop-at.ensures k.invariant.1 (c.stands_at.ensures.no c.if-stands_at.false)
 
 pub returns : goal.returns

@@ -1,20 +1,20 @@
 -- `refusals::judge` meets its contract: a refusal is handed on, and a text that is found is inside the file.
 -- Assumes nothing.
 use Rattle.name_filter.proofs.Faults.{text_refused, judged_refused, judged_at}
-use Rattle.string_data.specs.Text.{says}
+use Rattle.std.specs.Prelude.{Err}
 use Rattle.string_data.proofs.Laws.{inside}
-use Rattle.words.proofs.Shared.{met}
-use mathlib.Core.Path.{ap}
+use borrow.Author.Rules.{rules}
+use mathlib.Core.Path.{◌≡◌}
 use Rattle.name_filter.proofs.refusals.judge.Goals as goal
 
 pub judge_text-requires : goal.judge_text-requires
-judge_text-requires c = inside _ _ _ _ (met (ap says c.in-Text.is) c.string_data.ensures)
+judge_text-requires c = inside _ _ _ _ c.in_ok-text.ensures
 
-pub returns-in-Text : goal.returns-in-Text
-returns-in-Text c =
-    judged_at (met (ap says c.in-Text.is) c.string_data.ensures) c.judge_text.ensures
+pub returns : goal.returns
+returns c = judged_at c.in_ok-text.ensures c.judge_text.ensures
 
-pub returns-in-Refused : goal.returns-in-Refused
-returns-in-Refused c =
-    judged_refused _ _ _ c.in-Refused.why
-    (text_refused _ _ _ c.in-Refused.why (met (ap says c.in-Refused.is) c.string_data.ensures))
+pub returns-in_err-text : goal.returns-in_err-text
+returns-in_err-text c =
+    let why = c.in_err-text.field-0.0 in
+    let e : c.from_residual.result ≡ Err why = search rules in
+    rw e (judged_refused _ _ _ why (text_refused _ _ _ why c.in_err-text.ensures))

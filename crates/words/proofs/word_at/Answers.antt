@@ -1,8 +1,0 @@
--- `words::word_at` meets its contract: past the end the default is what is read.
--- Assumes nothing.
-use mathlib.Core.Path.{sym}
-use lib.ListN.{get_or-eq_default}
-use Rattle.words.proofs.word_at.Goals as goal
-
-pub returns-else-i-w : goal.returns-else-i-w
-returns-else-i-w c = sym (get_or-eq_default c.args.w.now 0 c.if-i-w.false)
