@@ -22,7 +22,7 @@ use Rattle.words.proofs.Shared.{cond_elim}
 use Rattle.dalvik.specs.CodeItem.{Code}
 use Rattle.class_data.specs.Stored.{first_bucket, last_bucket, triples_of}
 use Rattle.code_table.specs.Slots.{lowest, base_of, top_of, shared, joined, joined_slot, Table, place, table_from, table_of}
-use Rattle.code_table.specs.Steps.{no_code, Triples, room, three_words, Words, SlotWords, slot_words, Holds, After, Placeable, PlacedIn}
+use Rattle.code_table.specs.Steps.{no_code, Triples, room, Words, SlotWords, slot_words, Holds, After, Placeable, PlacedIn}
 use Rattle.code_table.specs.declared.Triple.{Triple}
 use Rattle.code_table.proofs.Buckets.{base_least, top_greatest}
 
@@ -262,6 +262,10 @@ held_none N W cs p q h =
     record { slots = p ∙ sym (padded_zeros N (top_of cs - base_of cs) h); shares = q ∙ sym (padded_none W); used = refl; fits = omega arith }
 
 -- ---- code i placed by its triple
+-- the triple that three words are read as
+abbrev pub three_words : ℕ → ℕ → ℕ → Triple
+three_words first last method = record { first = first; last = last; method = method }
+
 module _ {ts : List ℕ} {n : ℕ} {cs : List Code} (T : Triples ts n cs) {base : ℕ} (i : ℕ) (h : i < n) (least : base ≡ base_of cs) where
   below : i < length cs
   below = omega (arith, T.count)

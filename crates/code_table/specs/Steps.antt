@@ -46,10 +46,7 @@ pub record Coded (ts : List ℕ) (n : ℕ) : Type 0 where
 abbrev pub room : ℕ → ℕ
 room n = min n most_shares
 
-abbrev pub three_words : ℕ → ℕ → ℕ → Triple
-three_words first last method = record { first = first; last = last; method = method }
-
--- they are those of a code
+-- the words of a triple are those of a code
 pub record Words (c : Code) (x : Triple) : Type 0 where
   pub first : x.first ≡ first_bucket c
   pub last : x.last ≡ last_bucket c

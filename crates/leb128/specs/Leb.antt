@@ -50,7 +50,3 @@ pub record PublishedLen (s : List ℕ) (i : ℕ) (r : Result ℕ Refusal) : Type
 abbrev pub on_uleb {ℓ} : {A : Type ℓ} → Result Uleb Refusal → (Refusal → A) → (ℕ → ℕ → A) → A
 on_uleb (Ok n) a g = g n.value n.len
 on_uleb (Err r) a g = a r
-
-abbrev pub on_len {ℓ} : {A : Type ℓ} → Result ℕ Refusal → (Refusal → A) → (ℕ → A) → A
-on_len (Ok m) a g = g m
-on_len (Err r) a g = a r

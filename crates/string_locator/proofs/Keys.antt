@@ -10,7 +10,7 @@ use mathlib.Core.List.{List, [], ◌∷◌}
 use Rattle.dalvik.specs.Ids.{string_data_off}
 use Rattle.words.specs.Rising.{Rising}
 use Rattle.sort_keys.specs.Sorted.{sorted}
-use Rattle.sort_keys.specs.Keys.{count, once}
+use Rattle.sort_keys.proofs.Keys.{count, once}
 use Rattle.sort_keys.proofs.Counts.{same?, below?, once_same, once_other, count_append}
 use Rattle.sort_keys.proofs.Sorted.{sorted_same, sorted_rising}
 use Rattle.string_locator.specs.Map.{key_of, keys_of, least, greatest}
