@@ -14,7 +14,7 @@ use borrow.Author.Tests.{lt-ltb, le-ltb, ltb-true, eqb-true, eqb-false}
 use Rattle.words.proofs.Shared.{case}
 use Rattle.dalvik.specs.Ids.{method_class_idx, method_name_idx}
 use Rattle.word_set.specs.Sets.{In, SetOf}
-use Rattle.word_set.specs.Steps.{Matched}
+use Rattle.word_set.specs.Steps.{Decides, Matched}
 use Rattle.word_set.proofs.Sets.{below_or_not, in_none, in_here, in_cons, in_cases, Listed, set_none, set_with, set_same}
 use Rattle.word_set.proofs.Collected.{Collected, collect_pass, collect_insert, collect_full}
 use Rattle.string_search.specs.Search.{Owns}
@@ -37,6 +37,22 @@ among_or_not true xs x = ⊎_elim (λ (i : In x xs). inl (λ _. i)) (λ (n : In 
 among_or_not false xs x = inl (λ e. absurd (let z : ◌≡◌ {A = ℕ} 0 1 = cc in omega arith))
 
 module _ (v : Sieve) where
+  -- both tests of a method, with its class_idx and name_idx as they were read
+  module _ (i x : ℕ) (ex : x ≡ method_class_idx v.file v.off i) (r : Bool) (d : Decides (Among v.by_class v.types x) r) where
+    pub class_other : r ≡ false → Decides (Fits v i) false
+    class_other e =
+        record {
+          yes = λ h. absurd (let z : ◌≡◌ {A = ℕ} 0 1 = cc in omega arith);
+          no = λ h f. d.no e (subst (Among v.by_class v.types) (sym ex) f.class);
+        }
+
+    pub class_fits : r ≡ true → (y : ℕ) → y ≡ method_name_idx v.file v.off i → (t : Bool) → Decides (Among v.by_name v.names y) t
+        → Decides (Fits v i) t
+    class_fits e y ey t g = record {
+      yes = λ h. record { class = subst (Among v.by_class v.types) ex (d.yes e); name = subst (Among v.by_name v.names) ey (g.yes h) };
+      no = λ h f. g.no h (subst (Among v.by_name v.names) (sym ey) f.name);
+    }
+
   fits_or_not : (i : ℕ) → Fits v i ⊎ (Fits v i → ⊥)
   fits_or_not i =
       ⊎_elim (λ (a : Among v.by_class v.types (method_class_idx v.file v.off i)). ⊎_elim

@@ -33,6 +33,12 @@ asked_among xs x asked r a up c = record {
   no = λ e m. not_in xs x c.at up c.place (sym c.is ∙ e) (m a);
 }
 
+pub not_asked : (xs : List ℕ) (x : ℕ) (asked : Bool) → asked ≡ false → Decides (Among asked xs x) true
+not_asked xs x asked a = record {
+  yes = λ e m. absurd (let z : ◌≡◌ {A = ℕ} 0 1 = cc in omega arith);
+  no = λ e. absurd (let z : ◌≡◌ {A = ℕ} 0 1 = cc in omega arith);
+}
+
 -- faults
 module _ (len : ℕ) (methods : Table) (c n : ℕ) (ks : List ℕ) (m : ℕ) (e : m ≡ max c n) where
   pub fault_search : (why : Refusal) → refusal_number why ≡ search_fault len 0 m ks → refusal_number why ≡ method_fault len methods c n ks

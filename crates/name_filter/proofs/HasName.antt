@@ -25,15 +25,15 @@ use Rattle.byte_search.proofs.Occurs.{byte_stands}
 use Rattle.name_filter.specs.HasName.{lower_case, is_ascii, HasName}
 
 module _ (b : ℕ) where
-  lower_letter : 0x41 ≤ b → b ≤ 0x5a → b + 32 ≡ lower_case b
+  pub lower_letter : 0x41 ≤ b → b ≤ 0x5a → b + 32 ≡ lower_case b
   unfolding lower_case
   lower_letter h k = rw (le-leb 0x41 b h, le-leb b 0x5a k)
 
-  lower_above : 0x5a < b → b ≡ lower_case b
+  pub lower_above : 0x5a < b → b ≡ lower_case b
   unfolding lower_case
   lower_above k = rw (le-leb 0x41 b (omega arith), lt-leb b 0x5a k)
 
-  lower_below : b < 0x41 → b ≡ lower_case b
+  pub lower_below : b < 0x41 → b ≡ lower_case b
   unfolding lower_case
   lower_below k = rw (lt-leb 0x41 b k)
 
@@ -62,10 +62,10 @@ module _ (b : ℕ) where
       (λ (h : x ≤ 0x5a). let z : x + 32 ≡ b = lower_letter x l h ∙ e in inr (omega arith, omega arith, omega arith)) (below_or_not 0x5a x))
       (below_or_not x 0x41)
 
-  capital_letter : Capital b (b - 32)
+  pub capital_letter : Capital b (b - 32)
   capital_letter = record { only = λ x e. ⊎_elim (λ (h : x ≡ b). inl h) (λ h. inr h.2) (was x e) }
 
-  capital_none : (b < 0x61) ⊎ (0x7a < b) → Capital b b
+  pub capital_none : (b < 0x61) ⊎ (0x7a < b) → Capital b b
   capital_none k =
       record {
         only = λ x e. ⊎_elim (λ (h : x ≡ b). inl h)

@@ -1,6 +1,6 @@
 -- Laws of start words, which open their definitions; nothing else does.
 --     pair_there, pair_missing, pair_inside   a pair read
---     first_padded                            those of the first methods
+--     first_all, first_padded                 those of the first methods
 --     with_there, with_missing, length_with, array_same, array_other    an array stored
 --     pair_padded, with_padded                in a list with zeros after it
 --     length_none, count_none, none_padded    methods without code
@@ -14,7 +14,7 @@ use mathlib.Core.Bool.{Bool, true, false}
 use mathlib.Core.List.{List}
 use lib.Dec.{ltb}
 use lib.ListN.{length, get_or, set, length-set, length-replicate}
-use lib.Seq.{get_or-set_same, get_or-set_other, take_at}
+use lib.Seq.{get_or-set_same, get_or-set_other, take_at, take_all}
 use borrow.Author.Tests.{lt-ltb, le-ltb, ltb-true, ltb-false}
 use Rattle.words.specs.Padded.{zeros, padded}
 use Rattle.words.proofs.Padded.{padded_longer, padded_at, padded_set, padded_zeros}
@@ -53,6 +53,10 @@ pair_padded ws m n a e =
     ∙ sym (pair_there ws m h) ∙ e
 
 module _ (n : ℕ) (ws : List ℕ) where
+  pub first_all : length ws ≤ 2 * n → first_starts n ws ≡ ws
+  unfolding first_starts
+  first_all h = take_all (2 * n) ws h
+
   pub first_padded : (k : ℕ) → length ws ≡ 2 * n → first_starts n (padded k ws) ≡ ws
   unfolding first_starts padded
   first_padded k h = take_at ws (zeros (k - length ws)) (2 * n) h

@@ -193,8 +193,11 @@ pub inside : (s : List ℕ) (i a n : ℕ) → found a n ≡ string_text s i → 
 unfolding Inside
 inside s i a n e = subst (Inside s) (sym e) (string_inside s i) refl
 
--- the stretch is the answer's: from a to a + n
+-- the stretch is the answer's: from a to a + n, or none
 pub stretch_found : (s : List ℕ) (a n : ℕ) (f : Found) → found a n ≡ f → take (a + n - a) (drop a s) ≡ stretch_of s f
 stretch_found s a n f e =
     let q : a + n - a ≡ n = omega arith in
     rw q (ap (stretch_of s) e)
+
+pub stretch_none : (s : List ℕ) (r : ℕ) (f : Found) → none r ≡ f → [] ≡ stretch_of s f
+stretch_none s r f e = ap (stretch_of s) e
