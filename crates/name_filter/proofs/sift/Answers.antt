@@ -15,4 +15,4 @@ returns-in_err-mark c =
 
 pub returns : goal.returns
 returns c =
-    sift_said c.in_ok-mark.ensures refl (omega (arith, c.requires.small, c.mark.auto)) c.requires.clear c.gather.ensures c.ok_or.ensures.value
+    sift_said c.in_ok-mark.ensures refl (omega (arith, c.requires.small, c.mark.auto)) c.requires.clear c.gather.ensures (grind arith)
