@@ -1,10 +1,10 @@
 -- The tables tell which indices are wanted, since each word of the list that was passed has left its trace in them.
---     is_in       is_in_take, any_is_in
+--     is_in       is_in_take, any_is_in, parts_is_in
 --     TableOf     table_marked, table_passed, table_tells
 --     WantedOf    wanted_none, wanted_in, wanted_out, wanted_tells
 --     Tells       tells_listed, tells_table
 -- Assumes nothing.
-use mathlib.Core.Path.{◌≡◌, refl, ap, sym, ◌∙◌}
+use mathlib.Core.Path.{◌≡◌, refl, ap, sym, subst, ◌∙◌}
 use mathlib.Core.Bool.{Bool, true, false, not, ◌&&◌, ◌||◌}
 use mathlib.Core.Logic.{⊎_elim}
 use mathlib.Core.List.{List, [], ◌∷◌, ◌++◌}
@@ -15,7 +15,13 @@ use lib.Dec.{ltb, eqb}
 use lib.ListN.{length, get_or, set, take}
 use lib.Seq.{take-suc, get_or-set_same, get_or-set_other}
 use borrow.Author.Tests.{eq-eqb, ne_eqb, eqb-true, eqb-false, ltb-true, ltb-false, lt-ltb, le-ltb, le-leb}
-use Rattle.std.specs.List.{list_any}
+use denote.Ref.{Bor}
+use denote.Param.Members.{Mut}
+use Rattle.std.specs.Prelude.{None, Some}
+use Rattle.std.specs.Fn.{Called}
+use Rattle.std.specs.Iterator.{Yields, ChecksAny}
+use Rattle.std.specs.List.{FoldsTo, list_any}
+use Rattle.std.specs.Slice.Iter.{rchunks_rest, rchunks_steps}
 use Rattle.dalvik.specs.Instructions.{Kind}
 use Rattle.dalvik.specs.Instructions.Kind.{strings}
 use Rattle.kinds.specs.Kinds.{is_strings}
@@ -49,6 +55,33 @@ eqb_turned x y =
 pub any_is_in : (x : ℕ) (l : List ℕ) → list_any (λ y. eqb y x) l ≡ is_in x l
 any_is_in x [] = refl
 any_is_in x (y ∷ ys) = rw (eqb_turned x y, any_is_in x ys)
+
+none_is_in : (x : ℕ) (l : List ℕ) → length l ≡ 0 → false ≡ is_in x l
+none_is_in x [] e = refl
+none_is_in x (y ∷ ys) e = absurd (omega arith)
+
+-- x is one of the words where it is one of a part that comes off their end: each part that was passed has it not, and the walk stops at a
+-- part that has it, or where nothing is left
+module _ {F : Type 0} (g : Mut F (Bor (List ℕ) × Unit {0}) Bool) (f : F) (x : ℕ)
+    (k : (p : Bor (List ℕ)) (b : Bool) (q : F) → Called g f (p, tt) b q → (q ≡ f) × (b ≡ list_any (λ y. eqb y x) p.now)) where
+  passed_is_in : (s t : _) (xs : List (Bor (List ℕ))) (j : F) → Yields rchunks_steps s xs t → FoldsTo (λ p y q. Called g p (y, tt) false q) f xs j
+      → (is_in x (rchunks_rest s) ≡ is_in x (rchunks_rest t)) × (j ≡ f)
+  passed_is_in s t [] j y h = (ap (λ z. is_in x (rchunks_rest z)) y, sym h)
+  passed_is_in s t (p ∷ ps) j (u, step, y) (q, call, h) =
+      let e = k p false q call in
+      let more = passed_is_in u t ps j y (subst (λ w. FoldsTo (λ a y b. Called g a (y, tt) false b) w ps j) e.0 h) in (
+        ap (is_in x) step.1.0 ∙ is_in_append x (rchunks_rest u) p.now ∙ ap (λ b. is_in x (rchunks_rest u) || b) (sym (e.1 ∙ any_is_in x p.now))
+            ∙ or_false (is_in x (rchunks_rest u)) ∙ more.0,
+        more.1,
+      )
+
+  pub parts_is_in : (r : Bool) (s u : _) → ChecksAny rchunks_steps g s f r u → r ≡ is_in x (rchunks_rest s)
+  parts_is_in r s u (xs, None, j, (t, y, last), h, e) = e ∙ none_is_in x (rchunks_rest t) last.1.0 ∙ sym (passed_is_in s t xs j y h).0
+  parts_is_in r s u (xs, Some p, j, (t, y, last), h, (e, (q, call))) =
+      let w = passed_is_in s t xs j y h in
+      let n = k p true q (subst (λ a. Called g a (p, tt) true q) w.1 call) in
+      e ∙ sym (or_true (is_in x (rchunks_rest u))) ∙ ap (λ b. is_in x (rchunks_rest u) || b) (n.1 ∙ any_is_in x p.now)
+      ∙ sym (ap (is_in x) last.1.0 ∙ is_in_append x (rchunks_rest u) p.now) ∙ sym w.0
 
 -- one word more
 pub is_in_take : (x : ℕ) (l : List ℕ) (i : ℕ) → i < length l → is_in x (take (i + 1) l) ≡ is_in x (take i l) || eqb x (get_or l i 0)

@@ -2,7 +2,7 @@
 // set of indices that each call prepares.
 // Kept, point 1: a kind is asked for by its number, and one that names none is refused 2 in its place (`scan_out`).
 // Kept, point 5: the slices of a call are parameters of their own, as C lends them and README lists them.
-// Kept, point 7: `others` belongs to the set that `finds` speaks of, and chooses no step.
+// Kept, point 7: `others` belongs to the index set of the clause `finds` of the public `next_hit`, whose signature may not change.
 #![tactic(auto)]
 
 mod hits; // hits.rt: the next hit, by fast paths

@@ -36,11 +36,11 @@ pub(crate) fn wanted_of(wanted: &[u32], bits: &mut [u64]) -> bool
     others
 }
 
-// Whether x is one of the words.
+// Whether x is one of the words: from the end, since of a rising list the words that have no bit are the last.
 fn is_listed(wanted: &[u32], x: u32) -> bool
     ensures { result ≡ is_in x wanted.now }
 {
-    wanted.contains(&x)
+    wanted.rchunks(16).any(|part| part.contains(&x))
 }
 
 // Whether the string index x is in the set: one look, or a walk over the words where x has no bit and some word has none either.
