@@ -366,6 +366,15 @@ static size_t taken(struct call *c)
     return STACK - i;
 }
 
+/* The strings' data begin higher from string to string up to the middle, and then lower: of such keys the sort of string_map takes as
+   many calls of itself as of any, but for a few. */
+static void rise_and_fall(size_t strings)
+{
+    size_t i;
+    for (i = 0; i < strings; i++)
+        put(header[STRINGS] + 4 * i, i < strings / 2 ? i : strings - i);
+}
+
 static void print_row(const char *name, const char *of, const size_t *taken_by)
 {
     size_t f;
@@ -396,6 +405,13 @@ static int stacks(const char *name)
             kind = RINGLINDEN_STRING;
             taken_by[i][f] = taken(&calls[i]) - own;
         }
+        if (f)
+            rise_and_fall(strings[f]);
+        for (i = 0; i < made; i++)
+            if (calls[i].run == string_map) {
+                const size_t turned = taken(&calls[i]) - own;
+                taken_by[i][f] = turned < taken_by[i][f] ? taken_by[i][f] : turned;
+            }
     }
     for (i = 0; i < made; i++) {
         const int by_kind = calls[i].run == scan || calls[i].run == find;
