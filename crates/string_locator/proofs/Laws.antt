@@ -17,11 +17,22 @@ use Rattle.words.specs.Padded.{zeros, padded}
 use Rattle.words.proofs.Padded.{padded_none, padded_front}
 use Rattle.words.proofs.Shared.{cond_elim}
 use Rattle.refusal.specs.Refusals.{is_too_large}
+use Rattle.dalvik.specs.Numbers.{le32}
+use Rattle.structs.specs.Reads.{read32}
+use Rattle.structs.proofs.Laws.{read32_value, read32_outside}
 use Rattle.string_data.specs.Text.{first_zero, on_zero}
 use Rattle.sort_keys.specs.Sorted.{sorted}
 use Rattle.sort_keys.proofs.Sorted.{length_sorted}
 use Rattle.string_locator.specs.LengthBytes.{length_bytes, on_length}
 use Rattle.string_locator.specs.Map.{key_of, keys_of, least, greatest, MapOutcome, none, area, text_area, strings_area, map_outcome}
+
+-- ---- a data offset read
+module _ (s : List ℕ) (at : ℕ) (h : at + 4 ≤ length s) where
+  pub read_inside : (v : ℕ) → Some v ≡ read32 s at → v ≡ le32 s at
+  read_inside v e = (read32_value s at v e).is
+
+  pub read_not_outside : None ≡ read32 s at → ⊥
+  read_not_outside e = omega (arith, read32_outside s at e)
 
 module _ (s : List ℕ) (table : ℕ) where
   -- ---- the keys
