@@ -32,11 +32,11 @@
  *         string_search                                                         513    513    513
  *         type_search, method_search, name_filter                              1026   1026   1026
  *         scan for strings, scan for others, find for strings, find for others  517    517    517
- *         string_map                                                              3      5      6
+ *         string_map                                                              4      5      6
  *         the others                                                              1      1      1
  *
- *     What string_map takes grows with the logarithm of the number of strings: its sort calls itself on a part of the keys, at worst about
- *     twice that logarithm deep. The row is of an order of the strings that comes to this.
+ *     What string_map takes grows with the logarithm of n, the number of strings: its sort calls itself on a part of the keys, at most
+ *     2 log2 n + 1 deep. The row holds of the worst orders of the strings that were found too.
  *
  * What suffices: with outputs of these lengths no call is refused 4 (proved: crates/room), and longer ones are as good. n is file_len;
  * strings.size and so on are the header's.

@@ -366,8 +366,8 @@ static size_t taken(struct call *c)
     return STACK - i;
 }
 
-/* The strings' data begin higher from string to string up to the middle, and then lower: of such keys the sort of string_map takes as
-   many calls of itself as of any, but for a few. */
+/* The strings' data begin higher from string to string up to the middle, and then lower: of such keys the sort of string_map calls itself
+   nearly as deep as of any (19, 32 and 42 of 23, 33 and 43). */
 static void rise_and_fall(size_t strings)
 {
     size_t i;
